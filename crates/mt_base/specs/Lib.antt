@@ -1,0 +1,4 @@
+pub mod Midi
+pub mod Valid
+pub mod Grains
+pub mod Pitch
