@@ -1,0 +1,15 @@
+pub mod Again
+pub mod Chunks
+pub mod Counts
+pub mod Files
+pub mod Laws
+pub mod Room
+pub mod Runs
+pub mod Takes
+pub mod Tracks
+pub mod Steady
+pub mod Channels
+pub mod Fades
+pub mod Parameters
+pub mod Equal
+pub mod Played

@@ -1,0 +1,56 @@
+-- How reading a track goes on.
+use Rattle.std.proofs.Common.{◌≡◌, ℕ, zero, suc, ◌<◌, List, [], ◌∷◌, length, Result, Ok, Err, Some, true, false, cond, refl, ap, ◌∙◌, arith}
+use Rattle.midi_model.specs.declared.fault.Stop.{Stop}
+use Rattle.midi_model.specs.declared.fault.SmfKind.TheVariants.{MissingEnd}
+use Rattle.mt_base.specs.Midi.{Timed, is_end}
+use Rattle.midi_model.specs.Reading.{Run, failed, last, in_front, continued, track_from, rest_of_track, event_at, quantity_at, quantity_from, IsRunning}
+use Rattle.midi_model.proofs.Laws.{shorter, event_takes}
+
+-- which continuation is taken doesn't matter where they agree on what was read
+agree : (f g : ℕ → ℕ → List ℕ → Run) (r : Result (Timed × ℕ × List ℕ) Stop) → ((x : Timed × ℕ × List ℕ) → r ≡ Ok x → f x.1 x.0.tick x.2 ≡ g x.1 x.0.tick x.2) → continued f r ≡ continued g r
+agree f g (Err e) h = refl
+agree f g (Ok x) h = ap (λ y. cond (is_end x.0.what) (last x.0) (in_front x.0 y)) (h x refl)
+
+fuel : (n m running before : ℕ) (bytes : List ℕ) → IsRunning running → length bytes < n → length bytes < m → track_from n running before bytes ≡ track_from m running before bytes
+unfolding track_from
+fuel zero m running before bytes run lt lt2 = absurd (omega (arith, lt))
+fuel (suc n) zero running before bytes run lt lt2 = absurd (omega (arith, lt2))
+fuel (suc n) (suc m) running before [] run lt lt2 = refl
+fuel (suc n) (suc m) running before (b ∷ bytes) run lt lt2 =
+    agree (track_from n) (track_from m) (event_at running before (b ∷ bytes)) (λ x e.
+    let small = shorter running before (b ∷ bytes) x run e in
+    let t = event_takes running before (b ∷ bytes) x run e in
+    fuel n m x.1 x.0.tick x.2 t.runs (omega (arith, small, lt)) (omega (arith, small, lt2)))
+
+pub nothing_left : (running before : ℕ) → rest_of_track running before [] ≡ failed (record { left = 0; kind = MissingEnd })
+unfolding rest_of_track track_from
+nothing_left running before = refl
+
+pub ends : (running before : ℕ) (bytes : List ℕ) (x : Timed × ℕ × List ℕ) → event_at running before bytes ≡ Ok x → is_end x.0.what ≡ true → rest_of_track running before bytes ≡ last x.0
+unfolding rest_of_track track_from event_at quantity_at quantity_from
+ends running before [] x e h = absurd cc
+ends running before (b ∷ bytes) x e h = ap (continued (track_from (suc (length bytes)))) e ∙ ap (λ t. cond t (last x.0) (in_front x.0 (track_from (suc (length bytes)) x.1 x.0.tick x.2))) h
+
+pub goes_on : (running before : ℕ) (bytes : List ℕ) (x : Timed × ℕ × List ℕ) → IsRunning running → event_at running before bytes ≡ Ok x → is_end x.0.what ≡ false
+    → rest_of_track running before bytes ≡ in_front x.0 (rest_of_track x.1 x.0.tick x.2)
+unfolding rest_of_track track_from event_at quantity_at quantity_from
+goes_on running before [] x run e h = absurd cc
+goes_on running before (b ∷ bytes) x run e h =
+    let small = shorter running before (b ∷ bytes) x run e in
+    let t = event_takes running before (b ∷ bytes) x run e in
+    ap (continued (track_from (suc (length bytes)))) e
+    ∙ ap (λ t. cond t (last x.0) (in_front x.0 (track_from (suc (length bytes)) x.1 x.0.tick x.2))) h
+    ∙ ap (in_front x.0) (fuel (suc (length bytes)) (suc (length x.2)) x.1 x.0.tick x.2 t.runs (omega (arith, small)) (omega arith))
+
+pub fails : (running before : ℕ) (bytes : List ℕ) (e : Stop) → 0 < length bytes → event_at running before bytes ≡ Err e → rest_of_track running before bytes ≡ failed e
+unfolding rest_of_track track_from
+fails running before [] e some h = absurd (omega (arith, some))
+fails running before (b ∷ bytes) e some h = ap (continued (track_from (suc (length bytes)))) h
+
+pub no_end : (running before : ℕ) (bytes : List ℕ) → length bytes ≡ 0 → (rest_of_track running before bytes).fault ≡ Some (record { left = 0; kind = MissingEnd })
+no_end running before [] h = ap (λ r. r.fault) (nothing_left running before)
+no_end running before (b ∷ bytes) h = absurd (omega (arith, h))
+
+pub no_events : (running before : ℕ) (bytes : List ℕ) → length bytes ≡ 0 → (rest_of_track running before bytes).events ≡ []
+no_events running before [] h = ap (λ r. r.events) (nothing_left running before)
+no_events running before (b ∷ bytes) h = absurd (omega (arith, h))

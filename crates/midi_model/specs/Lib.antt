@@ -1,0 +1,13 @@
+pub mod Reading
+pub mod Spelling
+pub mod FileText
+pub mod Sysex
+pub mod Params
+pub mod Channel
+pub mod Zones
+pub mod Notes
+pub mod Music
+pub mod Tuning
+pub mod Receiver
+pub mod Played
+pub mod Bring
