@@ -1,6 +1,7 @@
 pub mod Reading
 pub mod Spelling
 pub mod FileText
+pub mod Merged
 pub mod Sysex
 pub mod Params
 pub mod Channel
