@@ -1,0 +1,10 @@
+//! The command: what its words ask for, done over any `Files`.
+#![tactic(auto)]
+
+mod lines;
+mod outcome;
+mod retune;
+mod words;
+
+pub use outcome::{Fault, Outcome};
+pub use retune::run;
