@@ -2,6 +2,7 @@ pub mod Reading
 pub mod Spelling
 pub mod FileText
 pub mod Sysex
+pub mod TuningBytes
 pub mod Params
 pub mod Channel
 pub mod Zones
