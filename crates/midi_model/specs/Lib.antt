@@ -4,6 +4,7 @@ pub mod FileText
 pub mod Merged
 pub mod Kinds
 pub mod Sysex
+pub mod TuningBytes
 pub mod Params
 pub mod Channel
 pub mod Zones
