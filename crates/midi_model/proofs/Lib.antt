@@ -7,7 +7,9 @@ pub mod Room
 pub mod Runs
 pub mod Takes
 pub mod Tracks
+pub mod Same
 pub mod Steady
+pub mod Timely
 pub mod Channels
 pub mod Fades
 pub mod Parameters

@@ -2,5 +2,10 @@
 #![tactic(auto)]
 
 mod fault;
+mod receiver;
 
 pub use fault::{SmfKind, Stop};
+pub use receiver::{
+    bring_examples, controller_examples, music_hears_no_tuning, pedal_examples, receiver_laws,
+    reset_examples, silent_at_first, tuning_examples, zone_examples,
+};
