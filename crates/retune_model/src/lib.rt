@@ -1,0 +1,6 @@
+//! What it means that one file plays another in a scale: definitions alone, with their laws.
+#![tactic(auto)]
+
+mod routes;
+
+pub use routes::{blocks_play_the_source, dump_plays_the_source, live_plays_the_source};
