@@ -17,3 +17,4 @@ pub mod Bring
 pub mod Select
 pub mod Order
 pub mod Examples
+pub mod Writing
