@@ -1,3 +1,4 @@
 pub mod Status
 pub mod Command
 pub mod Lines
+pub mod Source

@@ -4,6 +4,7 @@
 mod lines;
 mod outcome;
 mod retune;
+mod source;
 mod words;
 
 pub use outcome::{Fault, Outcome};
