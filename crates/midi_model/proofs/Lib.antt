@@ -7,6 +7,7 @@ pub mod Room
 pub mod Runs
 pub mod Takes
 pub mod Tracks
+pub mod Merging
 pub mod Steady
 pub mod Channels
 pub mod Fades

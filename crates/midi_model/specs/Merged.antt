@@ -31,7 +31,7 @@ merged_tracks ts = sorted (one_by_one 0 ts)
 abbrev pub merged : MidiFile → List MidiEvent
 merged file = merged_tracks file.tracks
 
--- ---- what a player wants of a list of events
+-- ---- what a list of events has to be so that it can be played, and written, as a file
 
 -- each event may stand before all that follow it
 abbrev pub InOrder : List MidiEvent → Type 0
@@ -47,7 +47,19 @@ EndsOnce (e ∷ f ∷ es) = (is_end e.what ≡ false) × EndsOnce (f ∷ es)
 abbrev pub of_track : ℕ → List MidiEvent → List MidiEvent
 of_track track es = filter (λ e. e.track == track) es
 
--- A list of events that can be played, and written, as a file of so many tracks.
+-- The events of one track, with its number.
+pub record IsTrackOf (track : ℕ) (es : List MidiEvent) : Type 0 where
+  pub valid : AllByRecursion (λ e. IsValidEvent e) es
+  pub in_order : InOrder es
+  pub in_track : AllByRecursion (λ e. e.track ≡ track) es
+  pub ended : EndsOnce es
+
+-- tracks, the first of which has a number
+abbrev pub AreTracksOf : ℕ → List (List Timed) → Type 0
+AreTracksOf track [] = Unit {0}
+AreTracksOf track (es ∷ ts) = IsTrackOf track (map (placed track) es) × AreTracksOf (suc track) ts
+
+-- A list of events that is playable for so many tracks.
 pub record IsPlayable (tracks : ℕ) (es : List MidiEvent) : Type 0 where
   pub valid : AllByRecursion (λ e. IsValidEvent e) es
   pub in_order : InOrder es

@@ -2,5 +2,7 @@
 #![tactic(auto)]
 
 mod fault;
+mod order;
 
 pub use fault::{SmfKind, Stop};
+pub use order::{merged_example, merged_order};
