@@ -1,0 +1,2 @@
+pub mod Distributed
+pub mod Keys
