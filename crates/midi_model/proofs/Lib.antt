@@ -8,6 +8,7 @@ pub mod Runs
 pub mod Takes
 pub mod Tracks
 pub mod Merging
+pub mod Playing
 pub mod Steady
 pub mod Channels
 pub mod Fades
