@@ -1,5 +1,5 @@
 -- All events of a file in one list (Standard MIDI File 1.0: the tracks of a file of format 1 are played together).
-use Rattle.std.specs.Prelude.{◌≡◌, ℕ, suc, ◌<◌, List, [], ◌∷◌, ◌++◌, map, filter, get_or, Bool, true, false, nat_le, nat_lt, ◌==◌, if◌then◌else◌}
+use Rattle.std.specs.Prelude.{◌≡◌, ℕ, suc, ◌<◌, List, [], ◌∷◌, ◌++◌, map, filter, Option, Some, None, Bool, true, false, nat_le, nat_lt, ◌==◌, if◌then◌else◌}
 use Rattle.std.specs.List.{AllByRecursion}
 use Rattle.mt_base.specs.Midi.{Timed, MidiEvent, placed, is_end}
 use Rattle.mt_base.specs.Valid.{IsValidEvent}
@@ -30,6 +30,10 @@ merged_tracks ts = sorted (one_by_one 0 ts)
 
 abbrev pub merged : MidiFile → List MidiEvent
 merged file = merged_tracks file.tracks
+
+abbrev pub first_tick : List MidiEvent → Option ℕ
+first_tick [] = None
+first_tick (e ∷ es) = Some e.tick
 
 -- ---- what a list of events has to be so that it can be played, and written, as a file
 
