@@ -15,3 +15,5 @@ pub mod Fades
 pub mod Parameters
 pub mod Equal
 pub mod Played
+pub mod Writes
+pub mod Spelt

@@ -13,3 +13,4 @@ pub mod Tuning
 pub mod Receiver
 pub mod Played
 pub mod Bring
+pub mod Writing
