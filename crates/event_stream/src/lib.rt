@@ -2,5 +2,10 @@
 #![tactic(auto)]
 
 mod laws;
+mod least;
+mod list;
+mod stream;
 
 pub use laws::distribution;
+pub use list::ListStream;
+pub use stream::EventStream;
