@@ -9,3 +9,6 @@ mod text;
 pub use file::finish;
 pub use laws::written_is_read;
 pub use text::TrackText;
+
+#[cfg(test)]
+mod tests;

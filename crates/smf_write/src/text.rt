@@ -1,5 +1,5 @@
 ghost use Rattle.std.specs.Prelude.{◌≡◌, ◌<◌, ◌≤◌, ◌+◌, ◌^◌, List, [], ◌∷◌, ◌++◌, length, false, IsTrue, ◌↔◌, OnOk, OnErr};
-ghost use Rattle.mt_base.specs.Midi.{view_what, Timed};
+ghost use Rattle.mt_base.specs.Midi.{view_what, is_end, Timed};
 ghost use Rattle.mt_base.specs.Valid.{IsValidWhat};
 ghost use Rattle.midi_model.specs.Writing.{written, with_event, most_bytes};
 
@@ -30,7 +30,10 @@ impl Model for TrackText {
 impl TrackText {
     /// A track without events.
     pub fn new(alloc: Global) -> TrackText
-        ensures { result ≡ written [] }
+        ensures stands { result ≡ written [] }
+        ensures empty { result.bytes ≡ [] }
+        ensures start { result.tick ≡ 0 }
+        ensures open { result.ended ≡ false }
     {
         TrackText {
             bytes: Vec::new(alloc),
@@ -76,6 +79,7 @@ impl TrackText {
         requires open { self.old.ended ≡ false }
         ensures appended { OnOk result (self.new ≡ with_event self.old (record { tick = tick; what = view_what what.now })) }
         ensures stands { (es : List Timed) → self.old ≡ written es → OnOk result (self.new ≡ written (es ++ record { tick = tick; what = view_what what.now } ∷ [])) }
+        ensures last { OnOk result ((self.new.tick ≡ tick) × (self.new.ended ≡ is_end (view_what what.now))) }
         ensures grows { length self.new.bytes ≤ length self.old.bytes + most_bytes (view_what what.now) }
         ensures unchanged { OnErr result (self.new ≡ self.old) }
     {

@@ -6,6 +6,6 @@ use Rattle.smf_write.proofs.text.TrackText.new.Goals as goal
 empty : List ℕ → Written
 empty bytes = record { bytes = bytes; tick = 0; running = 0; ended = false }
 
-pub returns : goal.returns
+pub returns-clause-stands : goal.returns-clause-stands
 unfolding empty
-returns c = ap empty c.new.ensures.items ∙ nothing_written
+returns-clause-stands c = ap empty c.new.ensures.items ∙ nothing_written
