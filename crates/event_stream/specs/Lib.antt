@@ -1,0 +1,4 @@
+pub mod Distributed
+pub mod Keys
+pub mod Tree
+pub mod Streams

@@ -1,0 +1,11 @@
+//! Streams of events: lists, tracks, all tracks of a file merged, and the tracks that events are put into.
+#![tactic(auto)]
+
+mod laws;
+mod least;
+mod list;
+mod stream;
+
+pub use laws::distribution;
+pub use list::ListStream;
+pub use stream::EventStream;
