@@ -2,3 +2,4 @@ pub mod Status
 pub mod Command
 pub mod Lines
 pub mod Source
+pub mod Survey

@@ -5,6 +5,7 @@ mod lines;
 mod outcome;
 mod retune;
 mod source;
+mod survey;
 mod words;
 
 pub use outcome::{Fault, Outcome};
