@@ -46,10 +46,9 @@ pub fn log2_grains(a: u64, b: u64) -> Bracket
     let start = Start::of(above.mantissa, below.mantissa);
     let digits = binary_digits(start.mantissa);
     let down = above.shift + start.doublings;
-    Bracket {
-        lo: placed(grains_down(digits), below.shift, down),
-        hi: placed(grains_up(digits + 2), below.shift, down),
-    }
+    let lo = placed(grains_down(digits), below.shift, down);
+    let hi = placed(grains_up(digits + 2), below.shift, down);
+    Bracket { lo, hi }
 }
 
 // The grains of digits / 2 ^ 32 octaves, cut down to a whole number.

@@ -25,30 +25,30 @@ returns-then-above-below-clause-exact_down c = λ j is.
     (returns-then-above-below-clause-least c) (returns-then-above-below-clause-most c) in
     (e, e)
 
-pub placed-requires-clause-grains : goal.placed-requires-clause-grains
-placed-requires-clause-grains c = small_down c.grains_down.result c.binary_digits-digits.result c.binary_digits-digits.ensures.below c.grains_down.ensures.low
+pub placed-lo-requires-clause-grains : goal.placed-lo-requires-clause-grains
+placed-lo-requires-clause-grains c = small_down c.grains_down.result c.binary_digits-digits.result c.binary_digits-digits.ensures.below c.grains_down.ensures.low
 
-pub placed-requires-2-clause-grains : goal.placed-requires-2-clause-grains
-placed-requires-2-clause-grains c = small_up c.grains_up.result c.binary_digits-digits.result c.binary_digits-digits.ensures.below c.grains_up.ensures.high
+pub placed-hi-requires-clause-grains : goal.placed-hi-requires-clause-grains
+placed-hi-requires-clause-grains c = small_up c.grains_up.result c.binary_digits-digits.result c.binary_digits-digits.ensures.below c.grains_up.ensures.high
 
 pub returns-clause-least : goal.returns-clause-least
 returns-clause-least c =
     digits_least c.args.a c.args.b c.of-above.result.mantissa c.of-below.result.mantissa c.of-above.result.shift c.of-below.result.shift
-    c.of-start.result.doublings c.grains_down.result c.binary_digits-digits.result c.placed.result.0 c.of-above.ensures.value c.of-below.ensures.value
+    c.of-start.result.doublings c.grains_down.result c.binary_digits-digits.result c.placed-lo.result.0 c.of-above.ensures.value c.of-below.ensures.value
     (c.binary_digits-digits.ensures.digits _ _ (record { low = c.of-start.ensures.low; high = c.of-start.ensures.high }))
-    c.grains_down.ensures.low c.placed.ensures
+    c.grains_down.ensures.low c.placed-lo.ensures
 
 pub returns-clause-most : goal.returns-clause-most
 returns-clause-most c =
     digits_most c.args.a c.args.b c.of-above.result.mantissa c.of-below.result.mantissa c.of-above.result.shift c.of-below.result.shift
-    c.of-start.result.doublings c.grains_up.result c.binary_digits-digits.result c.placed-2.result.0 c.of-above.ensures.value c.of-below.ensures.value
+    c.of-start.result.doublings c.grains_up.result c.binary_digits-digits.result c.placed-hi.result.0 c.of-above.ensures.value c.of-below.ensures.value
     (c.binary_digits-digits.ensures.digits _ _ (record { low = c.of-start.ensures.low; high = c.of-start.ensures.high }))
-    c.grains_up.ensures.low c.placed-2.ensures
+    c.grains_up.ensures.low c.placed-hi.ensures
 
 pub returns-clause-width : goal.returns-clause-width
 returns-clause-width c =
     apart c.grains_down.result c.grains_up.result (c.of-above.result.shift + c.of-start.result.doublings) c.of-below.result.shift c.binary_digits-digits.result
-    c.placed.result.0 c.placed-2.result.0 c.grains_down.ensures.high c.grains_up.ensures.high c.placed.ensures c.placed-2.ensures
+    c.placed-lo.result.0 c.placed-hi.result.0 c.grains_down.ensures.high c.grains_up.ensures.high c.placed-lo.ensures c.placed-hi.ensures
 
 pub returns-clause-exact_up : goal.returns-clause-exact_up
 returns-clause-exact_up c = λ j is.
@@ -71,14 +71,14 @@ returns-then-above-below-clause-highest c =
 pub returns-clause-order : goal.returns-clause-order
 returns-clause-order c =
     ordered c.grains_down.result c.grains_up.result (c.of-above.result.shift + c.of-start.result.doublings) c.of-below.result.shift c.binary_digits-digits.result
-    c.placed.result.0 c.placed-2.result.0 c.grains_down.ensures.low c.grains_up.ensures.low c.placed.ensures c.placed-2.ensures
+    c.placed-lo.result.0 c.placed-hi.result.0 c.grains_down.ensures.low c.grains_up.ensures.low c.placed-lo.ensures c.placed-hi.ensures
 
 pub returns-clause-lowest : goal.returns-clause-lowest
 returns-clause-lowest c =
-    not_low c.grains_down.result (c.of-above.result.shift + c.of-start.result.doublings) c.of-below.result.shift c.placed.result.0
-    (omega (arith, c.of-above.ensures.shift, c.of-start.ensures.doublings)) c.placed.ensures
+    not_low c.grains_down.result (c.of-above.result.shift + c.of-start.result.doublings) c.of-below.result.shift c.placed-lo.result.0
+    (omega (arith, c.of-above.ensures.shift, c.of-start.ensures.doublings)) c.placed-lo.ensures
 
 pub returns-clause-highest : goal.returns-clause-highest
 returns-clause-highest c =
-    not_high c.grains_up.result (c.of-above.result.shift + c.of-start.result.doublings) c.of-below.result.shift c.placed-2.result.0
-    (small_up c.grains_up.result c.binary_digits-digits.result c.binary_digits-digits.ensures.below c.grains_up.ensures.high) c.of-below.ensures.shift c.placed-2.ensures
+    not_high c.grains_up.result (c.of-above.result.shift + c.of-start.result.doublings) c.of-below.result.shift c.placed-hi.result.0
+    (small_up c.grains_up.result c.binary_digits-digits.result c.binary_digits-digits.ensures.below c.grains_up.ensures.high) c.of-below.ensures.shift c.placed-hi.ensures
