@@ -4,3 +4,7 @@ pub mod SameMusic
 pub mod Tunings
 pub mod Tuned
 pub mod Told
+pub mod Lists
+pub mod Fewest
+pub mod Places
+pub mod Placed

@@ -1,3 +1,15 @@
 pub mod Blocks
 pub mod Routes
 pub mod Plain
+pub mod Scale
+pub mod Table
+pub mod Options
+pub mod Source
+pub mod PlaysTheSame
+pub mod Faults
+pub mod Dump
+pub mod Numbered
+pub mod Need
+pub mod Runs
+pub mod Pairs
+pub mod Choice
