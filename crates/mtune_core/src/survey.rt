@@ -52,6 +52,7 @@ impl Survey {
 }
 
 /// Goes through all events of a stream.
+#[tactic(auto, unfolding(crate::specs::Survey::survey_from))]
 pub fn look_through<'a, S: EventStream<'a>>(stream: &mut S) -> Survey
     requires few { length (S.all stream.old) ≤ 2097152 }
     requires valid { AllByRecursion (λ e. IsValidEvent e) (S.all stream.old) }
