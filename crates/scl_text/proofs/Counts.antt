@@ -39,9 +39,14 @@ some_digits line digits e some =
 
 no_digits : (line : List ℕ) → number_of line ≡ [] → HasNoDigit line
 no_digits line e =
-    let all : after_digits (after_blanks line) ≡ after_blanks line = (let f = front_behind is_digit (after_blanks line) in sym (ap (λ r. r ++ after_digits (after_blanks line)) e) ∙ f) in
-    (front is_blank line, after_blanks line, front_are is_blank line, behind_stops is_blank line,
-      (let P : List ℕ → Type 0 = λ r. StopsAt is_digit r in subst P all (behind_stops is_digit (after_blanks line))), sym (front_behind is_blank line))
+    let all : after_digits (after_blanks line) ≡ after_blanks line = (let f = front_behind is_digit (after_blanks line) in sym (ap (λ r. r ++ after_digits (after_blanks line)) e) ∙ f) in (
+      front is_blank line,
+      after_blanks line,
+      front_are is_blank line,
+      behind_stops is_blank line,
+      (let P : List ℕ → Type 0 = λ r. StopsAt is_digit r in subst P all (behind_stops is_digit (after_blanks line))),
+      sym (front_behind is_blank line),
+    )
 
 first_blank : (digits rest : List ℕ) → IsNumber digits → StopsAt is_blank (digits ++ rest)
 first_blank [] rest n = absurd (let h = n.1 in omega (arith, h))
@@ -101,21 +106,21 @@ count_fault_again line MissingPitch h = absurd h
 -- each line has a count or a fault
 pub counted : (line : List ℕ) → ((n : ℕ) × IsCount line n) ⊎ ((kind : SclKind) × CountFault line kind)
 counted line = elim (digits_or_none line) [
-      | inl d ↦ elim (ranged (value d.0)) [
-          | inl r ↦ inl (value d.0, (d.0, d.1, refl, r.0, r.1))
-          | inr r ↦ inr (CountRange, (d.0, d.1, r))
-        ]
-      | inr h ↦ inr (BadCount, h)
-    ]
+  | inl d ↦ elim (ranged (value d.0)) [
+    | inl r ↦ inl (value d.0, (d.0, d.1, refl, r.0, r.1))
+    | inr r ↦ inr (CountRange, (d.0, d.1, r))
+  ]
+  | inr h ↦ inr (BadCount, h)
+]
 
 pub count_takes : (line : List ℕ) (n : ℕ) → count_of line ≡ Ok n → IsCount line n
 count_takes line n e = elim (counted line) [
-      | inl c ↦ subst (IsCount line) (ok_is c.0 n (sym (count_again line c.0 c.1) ∙ e)) c.1
-      | inr f ↦ absurd (let h = sym (count_fault_again line f.0 f.1) ∙ e in let g : (let r : Read = Err f.0 in r) ≡ Ok n = h in cc)
-    ]
+  | inl c ↦ subst (IsCount line) (ok_is c.0 n (sym (count_again line c.0 c.1) ∙ e)) c.1
+  | inr f ↦ absurd (let h = sym (count_fault_again line f.0 f.1) ∙ e in let g : (let r : Read = Err f.0 in r) ≡ Ok n = h in cc)
+]
 
 pub count_fault_takes : (line : List ℕ) (kind : SclKind) → count_of line ≡ Err kind → CountFault line kind
 count_fault_takes line kind e = elim (counted line) [
-      | inl c ↦ absurd (let h : (let r : Read = Ok c.0 in r) ≡ Err kind = sym (count_again line c.0 c.1) ∙ e in cc)
-      | inr f ↦ subst (CountFault line) (err_is f.0 kind (sym (count_fault_again line f.0 f.1) ∙ e)) f.1
-    ]
+  | inl c ↦ absurd (let h : (let r : Read = Ok c.0 in r) ≡ Err kind = sym (count_again line c.0 c.1) ∙ e in cc)
+  | inr f ↦ subst (CountFault line) (err_is f.0 kind (sym (count_fault_again line f.0 f.1) ∙ e)) f.1
+]

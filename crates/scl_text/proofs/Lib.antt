@@ -4,3 +4,4 @@ pub mod Entries
 pub mod Values
 pub mod Counts
 pub mod Scales
+pub mod Answered

@@ -35,7 +35,7 @@ entries_take missing (suc n) (line ∷ lines) entries e =
     let a = bind_ok (on_line line.number (pitch_of line.bytes)) _ entries e in
     let b = bind_ok (entries_at missing n lines) _ entries a.2 in
     subst (BeginsWith (suc n) (line ∷ lines)) (ok_is _ entries b.2)
-      (begins n line lines a.0 b.0 (pitch_takes line.bytes a.0 (on_line_ok line.number (pitch_of line.bytes) a.0 a.1)) (entries_take missing n lines b.0 b.1))
+    (begins n line lines a.0 b.0 (pitch_takes line.bytes a.0 (on_line_ok line.number (pitch_of line.bytes) a.0 a.1)) (entries_take missing n lines b.0 b.1))
 
 entries_again : (missing n : ℕ) (pitches more : List Numbered) (entries : List Entry) → ArePitches pitches entries → length entries ≡ n → entries_at missing n (pitches ++ more) ≡ Ok entries
 unfolding entries_at
@@ -64,11 +64,11 @@ entries_fault missing (suc n) (line ∷ lines) f e =
     elim (bind_err (on_line line.number (pitch_of line.bytes)) (λ entry. entries_at missing n lines >>= λ entries. Ok (entry ∷ entries)) f e) [
       | inl b ↦ let p = on_line_err line.number (pitch_of line.bytes) f b in
           subst (On (StopsWith missing (suc n) (line ∷ lines))) (sym p.2)
-            ([], line ∷ lines, [], refl, tt, omega arith, (refl, pitch_fault_takes line.bytes p.0 p.1))
+          ([], line ∷ lines, [], refl, tt, omega arith, (refl, pitch_fault_takes line.bytes p.0 p.1))
       | inr b ↦ elim (bind_err (entries_at missing n lines) (λ entries. Ok (b.0 ∷ entries)) f b.2) [
-          | inl d ↦ stops missing n line lines b.0 f.line f.kind (pitch_takes line.bytes b.0 (on_line_ok line.number (pitch_of line.bytes) b.0 b.1)) (entries_fault missing n lines f d)
-          | inr d ↦ absurd (let h : (let r : Read = Ok (b.0 ∷ d.0) in r) ≡ Err f = d.2 in cc)
-        ]
+        | inl d ↦ stops missing n line lines b.0 f.line f.kind (pitch_takes line.bytes b.0 (on_line_ok line.number (pitch_of line.bytes) b.0 b.1)) (entries_fault missing n lines f d)
+        | inr d ↦ absurd (let h : (let r : Read = Ok (b.0 ∷ d.0) in r) ≡ Err f = d.2 in cc)
+      ]
     ]
 
 entries_fault_again : (missing n : ℕ) (pitches rest : List Numbered) (entries : List Entry) (line : ℕ) (kind : SclKind) → ArePitches pitches entries → length entries < n → NoPitch missing rest line kind

@@ -45,17 +45,17 @@ ratio_ok a b entry e =
     elim (chosen (nat_lt greatest_number a || nat_lt greatest_number b) _ _ (Ok entry) e) [
       | inl t ↦ absurd (let h = t.1 in cc)
       | inr t ↦ elim (chosen (a == 0 || b == 0) _ _ (Ok entry) t.1) [
-          | inl u ↦ absurd (let h = u.1 in cc)
-          | inr u ↦
-              let big = or_parts (nat_lt greatest_number a) (nat_lt greatest_number b) t.0 in
-              let none = or_parts (a == 0) (b == 0) u.0 in
-              let high : a ≤ greatest_number = ltb-false greatest_number a big.0 in
-              let high2 : b ≤ greatest_number = ltb-false greatest_number b big.1 in
-              let some : 1 ≤ a = positive a none.0 in
-              let some2 : 1 ≤ b = positive b none.1 in
-              subst (RatioOk a b) (ok_is (Ratio a b) entry u.1)
-                (refl, refl, record { num_some = some; num_high = omega (arith, high); den_some = some2; den_high = omega (arith, high2) })
-        ]
+        | inl u ↦ absurd (let h = u.1 in cc)
+        | inr u ↦
+            let big = or_parts (nat_lt greatest_number a) (nat_lt greatest_number b) t.0 in
+            let none = or_parts (a == 0) (b == 0) u.0 in
+            let high : a ≤ greatest_number = ltb-false greatest_number a big.0 in
+            let high2 : b ≤ greatest_number = ltb-false greatest_number b big.1 in
+            let some : 1 ≤ a = positive a none.0 in
+            let some2 : 1 ≤ b = positive b none.1 in
+            subst (RatioOk a b) (ok_is (Ratio a b) entry u.1)
+            (refl, refl, record { num_some = some; num_high = omega (arith, high); den_some = some2; den_high = omega (arith, high2) })
+      ]
     ]
 
 not_zero : (n : ℕ) → 1 ≤ n → (n == 0) ≡ false
@@ -71,13 +71,15 @@ ratio_err a b kind e =
       | inl t ↦ subst (RatioFault a b) (err_is BigNumber kind t.1)
           (elim (or_cases (nat_lt greatest_number a) (nat_lt greatest_number b) t.0) [ inl h ↦ inl (ltb-true greatest_number a h) | inr h ↦ inr (ltb-true greatest_number b h) ])
       | inr t ↦ elim (chosen (a == 0 || b == 0) _ _ (Err kind) t.1) [
-          | inl u ↦
-              let big = or_parts (nat_lt greatest_number a) (nat_lt greatest_number b) t.0 in
-              subst (RatioFault a b) (err_is ZeroRatio kind u.1)
-              (ltb-false greatest_number a big.0, ltb-false greatest_number b big.1,
-                elim (or_cases (a == 0) (b == 0) u.0) [ inl h ↦ inl (eqb-true a 0 h) | inr h ↦ inr (eqb-true b 0 h) ])
-          | inr u ↦ absurd (ok_not_err (Ratio a b) kind u.1)
-        ]
+        | inl u ↦
+            let big = or_parts (nat_lt greatest_number a) (nat_lt greatest_number b) t.0 in
+            subst (RatioFault a b) (err_is ZeroRatio kind u.1) (
+              ltb-false greatest_number a big.0,
+              ltb-false greatest_number b big.1,
+              elim (or_cases (a == 0) (b == 0) u.0) [ inl h ↦ inl (eqb-true a 0 h) | inr h ↦ inr (eqb-true b 0 h) ],
+            )
+        | inr u ↦ absurd (ok_not_err (Ratio a b) kind u.1)
+      ]
     ]
 
 ratio_err_again : (a b : ℕ) (kind : SclKind) → RatioFault a b kind → ratio_entry a b ≡ Err kind
@@ -160,24 +162,24 @@ found (Some form) = inr (form, refl)
 
 pub pitch_takes : (line : List ℕ) (entry : Entry) → pitch_of line ≡ Ok entry → IsPitch line entry
 pitch_takes line entry e = elim (found (form_of line)) [
-      | inl n ↦ absurd (let h : (let r : Read = Err BadPitch in r) ≡ Ok entry = sym (ap entry_if n) ∙ e in cc)
-      | inr s ↦ (s.0, form_takes line s.0 s.1, entry_takes s.0 entry (sym (ap entry_if s.1) ∙ e))
-    ]
+  | inl n ↦ absurd (let h : (let r : Read = Err BadPitch in r) ≡ Ok entry = sym (ap entry_if n) ∙ e in cc)
+  | inr s ↦ (s.0, form_takes line s.0 s.1, entry_takes s.0 entry (sym (ap entry_if s.1) ∙ e))
+]
 
 pub pitch_again : (line : List ℕ) (entry : Entry) → IsPitch line entry → pitch_of line ≡ Ok entry
 pitch_again line entry (form, s, v) = ap entry_if (form_again line form s) ∙ entry_again form entry v
 
 pub pitch_fault_takes : (line : List ℕ) (kind : SclKind) → pitch_of line ≡ Err kind → PitchFault line kind
 pitch_fault_takes line kind e = elim (found (form_of line)) [
-      | inl n ↦ inl (sym (err_is BadPitch kind (sym (ap entry_if n) ∙ e)), no_form line n)
-      | inr s ↦ inr (s.0, form_takes line s.0 s.1, fault_takes s.0 kind (sym (ap entry_if s.1) ∙ e))
-    ]
+  | inl n ↦ inl (sym (err_is BadPitch kind (sym (ap entry_if n) ∙ e)), no_form line n)
+  | inr s ↦ inr (s.0, form_takes line s.0 s.1, fault_takes s.0 kind (sym (ap entry_if s.1) ∙ e))
+]
 
 pub pitch_fault_again : (line : List ℕ) (kind : SclKind) → PitchFault line kind → pitch_of line ≡ Err kind
 pitch_fault_again line kind (inl (e, none)) = elim (found (form_of line)) [
-      | inl n ↦ ap entry_if n ∙ (rw e refl)
-      | inr s ↦ absurd (none s.0 (form_takes line s.0 s.1))
-    ]
+  | inl n ↦ ap entry_if n ∙ (rw e refl)
+  | inr s ↦ absurd (none s.0 (form_takes line s.0 s.1))
+]
 pitch_fault_again line kind (inr (form, s, f)) = ap entry_if (form_again line form s) ∙ fault_again form kind f
 
 -- ---- ranges

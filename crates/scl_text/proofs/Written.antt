@@ -32,12 +32,12 @@ cents_take : (negative : Bool) (bytes bs : List ℕ) (form : Form) → after_dig
 cents_take negative bytes bs form a e =
     let whole = digits_of bytes in let decimals = digits_of bs in
     let took : 0 < length whole + length decimals → Takes negative bytes (InCents negative whole decimals) =
-      λ h. (whole ++ 46 ∷ decimals, after_digits bs, (front_are is_digit bytes, front_are is_digit bs, h, refl, behind_stops is_digit bs), split_twice bytes bs 46 a) in
+    λ h. (whole ++ 46 ∷ decimals, after_digits bs, (front_are is_digit bytes, front_are is_digit bs, h, refl, behind_stops is_digit bs), split_twice bytes bs 46 a) in
     elim (chosen (length whole == 0) _ _ (Some form) e) [
       | inl t ↦ elim (chosen (length decimals == 0) _ _ (Some form) t.1) [
-          | inl u ↦ absurd (let h = u.1 in cc)
-          | inr u ↦ subst (Takes negative bytes) (some_is _ _ u.1) (took (omega (arith, nonzero (length decimals) u.0)))
-        ]
+        | inl u ↦ absurd (let h = u.1 in cc)
+        | inr u ↦ subst (Takes negative bytes) (some_is _ _ u.1) (took (omega (arith, nonzero (length decimals) u.0)))
+      ]
       | inr t ↦ subst (Takes negative bytes) (some_is _ _ t.1) (took (omega (arith, nonzero (length whole) t.0)))
     ]
 
@@ -47,10 +47,10 @@ ratio_takes negative bytes bs form a e =
     elim (chosen (length num == 0) _ _ (Some form) e) [
       | inl t ↦ absurd (let h = t.1 in cc)
       | inr t ↦ elim (chosen (length den == 0) _ _ (Some form) t.1) [
-          | inl u ↦ absurd (let h = u.1 in cc)
-          | inr u ↦ subst (Takes negative bytes) (some_is _ _ u.1)
-              (num ++ 47 ∷ den, after_digits bs, ((front_are is_digit bytes, nonzero (length num) t.0), (front_are is_digit bs, nonzero (length den) u.0), refl, behind_stops is_digit bs), split_twice bytes bs 47 a)
-        ]
+        | inl u ↦ absurd (let h = u.1 in cc)
+        | inr u ↦ subst (Takes negative bytes) (some_is _ _ u.1)
+            (num ++ 47 ∷ den, after_digits bs, ((front_are is_digit bytes, nonzero (length num) t.0), (front_are is_digit bs, nonzero (length den) u.0), refl, behind_stops is_digit bs), split_twice bytes bs 47 a)
+      ]
     ]
 
 alone_takes : (negative : Bool) (bytes : List ℕ) (form : Form) → StopsAt goes_on (after_digits bytes) → alone_form negative (digits_of bytes) ≡ Some form → Takes negative bytes form
@@ -68,12 +68,12 @@ behind_takes negative bytes (b ∷ bs) form a e =
     elim (chosen (b == 46) _ _ (Some form) e) [
       | inl t ↦ cents_take negative bytes bs form (a ∙ ap (λ c. c ∷ bs) (eqb-true b 46 t.0)) t.1
       | inr t ↦ elim (chosen (b == 47) _ _ (Some form) t.1) [
-          | inl u ↦ ratio_takes negative bytes bs form (a ∙ ap (λ c. c ∷ bs) (eqb-true b 47 u.0)) u.1
-          | inr u ↦
-              let no : is_digit b ≡ false = (let P : List ℕ → Type 0 = λ r. StopsAt is_digit r in subst P a (behind_stops is_digit bytes)) in
-              let stop : goes_on b ≡ false = or_from _ _ (or_from _ _ no t.0) u.0 in
-              alone_takes negative bytes form (let P : List ℕ → Type 0 = λ r. StopsAt goes_on r in subst P (sym a) stop) u.1
-        ]
+        | inl u ↦ ratio_takes negative bytes bs form (a ∙ ap (λ c. c ∷ bs) (eqb-true b 47 u.0)) u.1
+        | inr u ↦
+            let no : is_digit b ≡ false = (let P : List ℕ → Type 0 = λ r. StopsAt is_digit r in subst P a (behind_stops is_digit bytes)) in
+            let stop : goes_on b ≡ false = or_from _ _ (or_from _ _ no t.0) u.0 in
+            alone_takes negative bytes form (let P : List ℕ → Type 0 = λ r. StopsAt goes_on r in subst P (sym a) stop) u.1
+      ]
     ]
 
 unsigned_takes : (negative : Bool) (bytes : List ℕ) (form : Form) → unsigned_form negative bytes ≡ Some form → Takes negative bytes form

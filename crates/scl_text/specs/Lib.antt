@@ -5,3 +5,4 @@ pub mod Answers
 pub mod Kinds
 pub mod Forms
 pub mod Spelling
+pub mod Worked

@@ -118,11 +118,13 @@ pub fn pitch(line: &[u8]) -> Result<Entry, SclKind>
 {
     match form(line) {
         None => Err(SclKind::BadPitch),
-        Some(Written::Cents {
-            negative,
-            whole,
-            decimals,
-        }) => cents(negative, whole, decimals),
+        Some(
+            Written::Cents {
+                negative,
+                whole,
+                decimals,
+            },
+        ) => cents(negative, whole, decimals),
         Some(Written::Ratio { negative, num, den }) => {
             if negative {
                 return Err(SclKind::NegativeRatio);

@@ -1,15 +1,18 @@
-ghost use Rattle.std.specs.Prelude.{◌≡◌, ◌≤◌, ◌<◌, ◌∷◌, [], length, IfOk, IfErr};
+ghost use Rattle.std.specs.Prelude.{◌≡◌, ◌≤◌, ◌<◌, ◌∷◌, [], length, List, ℕ, IfOk, IfErr};
 ghost use Rattle.scala_lines.specs.Lines.{lines_of};
 ghost use Rattle.scala_lines.specs.Remaining.{view, remaining, missing};
 ghost use Rattle.scl_text.specs.Reading.{count_of, entries_at, scale_at, scale_of};
-ghost use Rattle.scl_text.specs.Answers.{Gives};
+ghost use Rattle.scl_text.specs.Answers.{Gives, AnswersScale, AnswersFault, IsFaultOf};
+ghost use Rattle.scl_text.specs.Spelling.{ScaleText, ScaleFault};
+ghost use Rattle.scl_text.specs.declared.entry.Entry.{Entry};
+ghost use Rattle.scl_text.specs.declared.fault.SclKind.{SclKind};
 ghost use Rattle.scl_text.specs.declared.fault.SclFault.TheVariants as faults;
 
 use crate::entry::Entry;
 use crate::fault::{SclFault, SclKind};
 use crate::pitch::pitch;
 use crate::scale::Scale;
-use scala_lines::{after_blanks, split_digits, value_within, Line, Lines};
+use scala_lines::{Line, Lines, after_blanks, split_digits, value_within};
 use std::alloc::Global;
 
 /// The count of a count line, or the kind of its fault.
@@ -89,11 +92,30 @@ fn entries_of(alloc: Global, text: &[u8]) -> Result<Vec<Entry>, SclFault>
     }
 }
 
-/// Reads a scale text of at most 262,144 bytes. Answers its first fault, or want of memory.
-pub fn read_scl(alloc: Global, text: &[u8]) -> Result<Scale, SclFault>
+/// The scale of a text.
+fn scale(alloc: Global, text: &[u8]) -> Result<Scale, SclFault>
     requires { length text.now ≤ 262144 }
-    ensures exact { Gives (λ scale. scale.entries.items) result (scale_of (lines_of text.now)) }
+    ensures { Gives (λ scale. scale.entries.items) result (scale_of (lines_of text.now)) }
 {
     let entries = entries_of(alloc, text)?;
     Ok(Scale { entries })
+}
+
+/// Reads a scale text of at most 262,144 bytes: a description, a count line, and as many pitch lines as the count.
+/// A fault is the text's first one, with its line, counted from 1; where a line is missing, it is the number of
+/// lines plus 1.
+pub fn read_scl(alloc: Global, text: &[u8]) -> Result<Scale, SclFault>
+    requires { length text.now ≤ 262144 }
+    // What is read is a scale text with these entries.
+    ensures found { IfOk result (λ scale. ScaleText (lines_of text.now) scale.entries.items) }
+    // A scale text is read, unless memory runs out.
+    ensures only { (entries : List Entry) → ScaleText (lines_of text.now) entries → AnswersScale result entries }
+    // What is answered is the first fault.
+    ensures fault { IfErr result (λ e. IsFaultOf e (lines_of text.now)) }
+    // A text with a fault is refused with it, unless memory runs out.
+    ensures only_fault { (line : ℕ) (kind : SclKind) → ScaleFault (lines_of text.now) line kind → AnswersFault result line kind }
+    // Reading from left to right gives the same.
+    ensures exact { Gives (λ scale. scale.entries.items) result (scale_of (lines_of text.now)) }
+{
+    scale(alloc, text)
 }

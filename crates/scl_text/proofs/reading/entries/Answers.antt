@@ -13,16 +13,16 @@ returns-in-Err c = let l = c.pitches in
 pub returns-in-Err-pitch : goal.returns-in-Err-pitch
 returns-in-Err-pitch c = let l = c.pitches in
     sym l.invariant.told ∙ front_fault l.entries.items (missing l.lines) (c.args.count - l.counter) (remaining l.lines) (remaining c.next.new.self) (view c.in-Ok.line) c.in-Err-pitch.kind
-      (omega (arith, c.pitches-test.true)) c.in-Ok.ensures.line (sym c.pitch.ensures ∙ c.in-Err-pitch.is)
+    (omega (arith, c.pitches-test.true)) c.in-Ok.ensures.line (sym c.pitch.ensures ∙ c.in-Err-pitch.is)
 
 pub pitches-preserved : goal.pitches-preserved
 pitches-preserved c = let l = c.pitches in
-  let more : c.push.new.self.items ≡ l.entries.items ++ c.in-Ok-pitch.entry ∷ [] = c.push.ensures.items ∙ cond-true _ _ _ c.if-is_err.ensures.negation in record {
-  told =
-    rw (more, c.in-Ok.ensures.missing) (sym (front_more l.entries.items (missing l.lines) (c.args.count - l.counter) (c.args.count - (l.counter + 1)) (remaining l.lines) (remaining c.next.new.self) (view c.in-Ok.line) c.in-Ok-pitch.entry
-      (omega (arith, c.pitches-test.true)) c.in-Ok.ensures.line (sym c.pitch.ensures ∙ c.in-Ok-pitch.is)) ∙ l.invariant.told);
-  last = c.in-Ok.ensures.missing ∙ l.invariant.last;
-}
+    let more : c.push.new.self.items ≡ l.entries.items ++ c.in-Ok-pitch.entry ∷ [] = c.push.ensures.items ∙ cond-true _ _ _ c.if-is_err.ensures.negation in record {
+      told =
+          rw (more, c.in-Ok.ensures.missing) (sym (front_more l.entries.items (missing l.lines) (c.args.count - l.counter) (c.args.count - (l.counter + 1)) (remaining l.lines) (remaining c.next.new.self) (view c.in-Ok.line) c.in-Ok-pitch.entry
+          (omega (arith, c.pitches-test.true)) c.in-Ok.ensures.line (sym c.pitch.ensures ∙ c.in-Ok-pitch.is)) ∙ l.invariant.told);
+      last = c.in-Ok.ensures.missing ∙ l.invariant.last;
+    }
 
 pub returns : goal.returns
 returns c = let l = c.pitches in

@@ -1,9 +1,14 @@
-use Rattle.std.proofs.Common.{arith}
-use Rattle.scl_text.proofs.Scales.{kept}
+use Rattle.scl_text.proofs.Answered.{found, only, fault, only_fault}
 use Rattle.scl_text.proofs.reading.read_scl.Goals as goal
 
-pub invariant_of-result : goal.invariant_of-result
-invariant_of-result c =
-    let k = kept _ _ _ c.in_ok-entries.ensures in
-    let n = c.in_ok-entries.entries.ok in
-    record { some = omega (arith, k.0, n); few = omega (arith, k.1, n); in_range = k.2 }
+pub returns-clause-found : goal.returns-clause-found
+returns-clause-found c = found c.scale.result _ c.scale.ensures
+
+pub returns-clause-only : goal.returns-clause-only
+returns-clause-only c = only c.scale.result _ c.scale.ensures
+
+pub returns-clause-fault : goal.returns-clause-fault
+returns-clause-fault c = fault c.scale.result _ c.scale.ensures
+
+pub returns-clause-only_fault : goal.returns-clause-only_fault
+returns-clause-only_fault c = only_fault c.scale.result _ c.scale.ensures
