@@ -3,6 +3,7 @@ pub mod Spelling
 pub mod FileText
 pub mod Merged
 pub mod Kinds
+pub mod Examples
 pub mod Sysex
 pub mod Params
 pub mod Channel
