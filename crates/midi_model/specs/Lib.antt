@@ -3,6 +3,7 @@ pub mod Spelling
 pub mod FileText
 pub mod Merged
 pub mod Kinds
+pub mod Examples
 pub mod Sysex
 pub mod TuningBytes
 pub mod Params
@@ -16,5 +17,5 @@ pub mod Played
 pub mod Bring
 pub mod Select
 pub mod Order
-pub mod Examples
 pub mod Writing
+pub mod FileExamples

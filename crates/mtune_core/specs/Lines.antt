@@ -1,10 +1,11 @@
 -- The printed texts. Numbers are decimal, and each line ends with a line feed.
 use Rattle.std.specs.Prelude.{ℕ, List, [], ◌++◌, codes, decimal}
 use Rattle.midi_model.specs.Kinds.{kind_number}
+use Rattle.scl_text.specs.Kinds as scale
 use Rattle.mtune_files.specs.declared.which.Which.{Which}
 use Rattle.mtune_files.specs.declared.which.Which.TheVariants as whiches
 use Rattle.mtune_core.specs.declared.outcome.Fault.{Fault}
-use Rattle.mtune_core.specs.declared.outcome.Fault.TheVariants.{Usage, NotYet, Load, TooLong, Smf, Store, Say, Memory}
+use Rattle.mtune_core.specs.declared.outcome.Fault.TheVariants.{Usage, NotYet, Load, TooLong, Scl, Smf, Store, Say, Memory}
 
 abbrev pub which_name : Which → List ℕ
 which_name whiches.Scale = codes "scale"
@@ -16,6 +17,7 @@ fault_line (Usage kind) = codes "mtune: usage " ++ decimal kind ++ codes "\n"
 fault_line (NotYet kind) = codes "mtune: not yet " ++ decimal kind ++ codes "\n"
 fault_line (Load which) = codes "mtune: cannot load " ++ which_name which ++ codes "\n"
 fault_line (TooLong which) = codes "mtune: too long " ++ which_name which ++ codes "\n"
+fault_line (Scl line kind) = codes "mtune: scale line " ++ decimal line ++ codes " kind " ++ decimal (scale.kind_number kind) ++ codes "\n"
 fault_line (Smf offset kind) = codes "mtune: input byte " ++ decimal offset ++ codes " kind " ++ decimal (kind_number kind) ++ codes "\n"
 fault_line Store = codes "mtune: cannot store\n"
 fault_line Say = []

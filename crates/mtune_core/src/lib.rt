@@ -6,6 +6,7 @@ mod outcome;
 mod retune;
 mod source;
 mod survey;
+mod targets;
 mod words;
 
 pub use outcome::{Fault, Outcome};

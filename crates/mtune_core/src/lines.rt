@@ -80,6 +80,14 @@ pub fn line_of(fault: &Fault) -> Line
         Fault::NotYet { kind } => one("mtune: not yet ", u32::from(*kind)),
         Fault::Load { which } => about("mtune: cannot load ", *which),
         Fault::TooLong { which } => about("mtune: too long ", *which),
+        Fault::Scl { line, kind } => {
+            two(
+                "mtune: scale line ",
+                *line,
+                " kind ",
+                u32::from(kind.number()),
+            )
+        }
         Fault::Smf { offset, kind } => two(
             "mtune: input byte ",
             *offset,

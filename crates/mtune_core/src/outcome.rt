@@ -3,6 +3,7 @@ ghost use Rattle.mtune_core.specs.Status.{status_of};
 
 use midi_model::SmfKind;
 use mtune_files::Which;
+use scl_text::SclKind;
 
 /// How a call of `run` ended: status 0 without a fault, or the status of its fault.
 #[derive(Debug, PartialEq, Eq, Drop)]
@@ -20,6 +21,7 @@ pub enum Fault {
     NotYet { kind: u8 },
     Load { which: Which },
     TooLong { which: Which },
+    Scl { line: u32, kind: SclKind },
     Smf { offset: u32, kind: SmfKind },
     Store,
     Say,
@@ -32,7 +34,7 @@ pub fn status(fault: &Fault) -> u8
 {
     match fault {
         Fault::Usage { .. } => 1,
-        Fault::NotYet { .. } | Fault::TooLong { .. } | Fault::Smf { .. } => 2,
+        Fault::NotYet { .. } | Fault::TooLong { .. } | Fault::Scl { .. } | Fault::Smf { .. } => 2,
         Fault::Load { .. } | Fault::Store | Fault::Say => 3,
         Fault::Memory => 4,
     }
