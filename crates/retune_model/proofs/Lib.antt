@@ -8,3 +8,4 @@ pub mod Lists
 pub mod Fewest
 pub mod Places
 pub mod Placed
+pub mod SamePairs

@@ -13,3 +13,6 @@ pub mod Need
 pub mod Runs
 pub mod Pairs
 pub mod Choice
+pub mod BendOutput
+pub mod MpeOutput
+pub mod Examples
