@@ -33,7 +33,7 @@ timed_placed : (t : ℕ) (es : List Timed) → map timed (map (placed t) es) ≡
 timed_placed t [] = refl
 timed_placed t (e ∷ es) = ap (λ l. e ∷ l) (timed_placed t es)
 
-each_picked : (p : MidiEvent → Bool) (P : MidiEvent → Type 0) (es : List MidiEvent) → AllByRecursion P es → AllByRecursion P (filter p es)
+pub each_picked : (p : MidiEvent → Bool) (P : MidiEvent → Type 0) (es : List MidiEvent) → AllByRecursion P es → AllByRecursion P (filter p es)
 each_picked p P [] h = tt
 each_picked p P (e ∷ es) h = each_cond P (p e) _ _ (λ _. (h.0, each_picked p P es h.1)) (λ _. each_picked p P es h.1)
 

@@ -20,7 +20,7 @@ IsFirst e n (es ∷ ts) = ComesBefore e n es × IsFirst e (suc n) ts
 not_before : (e f : MidiEvent) → f.tick < e.tick → precedes e f ≡ false
 not_before e f l = rw (ne_eqb e.tick f.tick (λ z. omega (arith, z, l))) (let m : f.tick ≤ e.tick = omega (arith, l) in le-ltb e.tick f.tick m)
 
-no_earlier : (e f : MidiEvent) → Before e f → e.tick ≤ f.tick
+pub no_earlier : (e f : MidiEvent) → Before e f → e.tick ≤ f.tick
 no_earlier e f (inl l) = omega (arith, l)
 no_earlier e f (inr l) = omega (arith, l.0)
 

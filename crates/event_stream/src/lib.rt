@@ -5,7 +5,9 @@ mod laws;
 mod least;
 mod list;
 mod stream;
+mod tracks;
 
-pub use laws::distribution;
+pub use laws::{distribution, playable_is_put};
 pub use list::ListStream;
 pub use stream::EventStream;
+pub use tracks::TrackSet;
