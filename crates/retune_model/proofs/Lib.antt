@@ -8,3 +8,5 @@ pub mod Lists
 pub mod Fewest
 pub mod Places
 pub mod Placed
+pub mod Beside
+pub mod DumpPlayable
