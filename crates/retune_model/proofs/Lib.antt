@@ -9,3 +9,5 @@ pub mod Fewest
 pub mod Places
 pub mod Placed
 pub mod SamePairs
+pub mod Beside
+pub mod DumpPlayable
