@@ -73,22 +73,40 @@ fn write_in_place(rt: &HostRuntime, name: &str, content: &[u8]) -> io::Result<bo
     write_all(&mut file, content)
 }
 
-/// Writes through a link to a file that isn't there yet.
-fn write_through(rt: &HostRuntime, name: &str, content: &[u8]) -> io::Result<bool> {
-    let mut file = File::create_new(rt, name)?;
-    write_new(&mut file, None, content)
+/// The file that a link names which leads to none yet; of anything else None.
+fn behind_link(rt: &HostRuntime, name: &str) -> io::Result<Option<PathBuf>> {
+    match fs::symlink_metadata(rt, name) {
+        Ok(found) if found.is_symlink() => {
+            let link = fs::read_link(rt, name)?;
+            let folder = Path::new(name).parent().unwrap_or(Path::new(""));
+            Ok(Some(folder.join(rt.alloc(), link.as_path())?))
+        }
+        _ => Ok(None),
+    }
+}
+
+/// Writes a file where none is, also through a link.
+fn write_first(rt: &HostRuntime, name: &str, content: &[u8]) -> io::Result<bool> {
+    match behind_link(rt, name)? {
+        Some(target) => replace(rt, target.as_path(), None, content),
+        None => replace(rt, Path::new(name), None, content),
+    }
 }
 
 /// Gives a name a content. False, or an error, where it isn't stored whole.
 ///
-/// A link is followed to its file, and a file that is there keeps its permissions.
+/// A link is followed to its file. A file that is there keeps its permissions; one that may not be
+/// written isn't replaced.
 pub fn store(rt: &HostRuntime, name: &str, content: &[u8]) -> io::Result<bool> {
     match fs::metadata(rt, name) {
         Ok(found) if found.is_file() => {
+            if found.permissions().readonly() {
+                return Ok(false);
+            }
             let target = fs::canonicalize(rt, name)?;
             replace(rt, target.as_path(), Some(found.permissions()), content)
         }
         Ok(_) => write_in_place(rt, name, content),
-        Err(_) => replace(rt, Path::new(name), None, content),
+        Err(_) => write_first(rt, name, content),
     }
 }

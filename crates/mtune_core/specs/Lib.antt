@@ -3,3 +3,4 @@ pub mod Command
 pub mod Lines
 pub mod Source
 pub mod Survey
+pub mod Putting

@@ -1,6 +1,8 @@
 //! The command: what its words ask for, done over any `Files`.
 #![tactic(auto)]
 
+mod contents;
+mod dump;
 mod lines;
 mod outcome;
 mod retune;
