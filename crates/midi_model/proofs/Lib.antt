@@ -9,7 +9,9 @@ pub mod Takes
 pub mod Tracks
 pub mod Merging
 pub mod Playing
+pub mod Same
 pub mod Steady
+pub mod Timely
 pub mod Channels
 pub mod Fades
 pub mod Parameters

@@ -92,3 +92,9 @@ no_delta running before bytes e q = rw q refl
 pub has_delta : (running before : ℕ) (bytes : List ℕ) (e : Stop) → 0 < length bytes → (rest_of_track running before bytes).fault ≡ None → quantity_at bytes ≡ Err e → ⊥
 has_delta running before bytes e some sound q =
     let f = ap (λ r. r.fault) (fails running before bytes e some (no_delta running before bytes e q)) in cc
+
+-- where there is a delta, bytes are left
+pub some_left : (bytes : List ℕ) (d : ℕ × List ℕ) → quantity_at bytes ≡ Ok d → 0 < length bytes
+unfolding quantity_at quantity_from
+some_left [] d q = absurd cc
+some_left (b ∷ bytes) d q = omega arith

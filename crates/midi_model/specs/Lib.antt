@@ -3,7 +3,9 @@ pub mod Spelling
 pub mod FileText
 pub mod Merged
 pub mod Kinds
+pub mod Examples
 pub mod Sysex
+pub mod TuningBytes
 pub mod Params
 pub mod Channel
 pub mod Zones
@@ -13,4 +15,7 @@ pub mod Tuning
 pub mod Receiver
 pub mod Played
 pub mod Bring
+pub mod Select
+pub mod Order
 pub mod Writing
+pub mod FileExamples

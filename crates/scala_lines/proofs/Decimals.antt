@@ -1,12 +1,12 @@
 -- What digits say.
-use Rattle.std.proofs.Common.{◌≡◌, ℕ, zero, suc, ◌+◌, ◌-◌, ◌*◌, ◌/◌, ◌^◌, ◌<◌, ◌≤◌, List, [], ◌∷◌, ◌++◌, length, take, drop, get_or, Bool, true, false, cond, Option, Some, None, refl, sym, ap, ◌∙◌, arith, leb}
-use Rattle.std.proofs.lemmas.Bool.{leb-true, lt-leb, le-leb, and_parts}
-use Rattle.std.proofs.lemmas.List.{drop_more}
+use Rattle.std.proofs.Common.{◌≡◌, ℕ, zero, suc, ◌+◌, ◌-◌, ◌*◌, ◌/◌, ◌^◌, ◌<◌, ◌≤◌, List, [], ◌∷◌, ◌++◌, length, take, drop, get_or, Bool, true, false, cond, Option, Some, None, refl, sym, ap, ◌∙◌, arith, leb, inl, inr}
+use Rattle.std.proofs.lemmas.Bool.{leb-true, lt-leb, le-leb, and_parts, cases_lt}
+use Rattle.std.proofs.lemmas.List.{drop_more, length-take}
 use Rattle.std.proofs.Math.Nat.{pow-succ', mul-le-mul_right, mul-le-mul_left, mul_assoc}
 use Rattle.std.proofs.lemmas.Nat.{pow-add}
 use Rattle.std.specs.Prelude.{unwrap_or}
 use Rattle.scala_lines.specs.Characters.{Are, is_digit}
-use Rattle.scala_lines.specs.Numbers.{value_from, value, within}
+use Rattle.scala_lines.specs.Numbers.{value_from, value, within, billionths}
 
 -- more digits never say less
 pub value_grows : (before : ℕ) (ds : List ℕ) → before ≤ value_from before ds
@@ -67,3 +67,18 @@ few_read ds o v p a few is got pow =
     let low : value ds ≤ 999999999 = omega (arith, n, b) in
     let same : v ≡ value ds = got ∙ ap (λ (r : Option ℕ). unwrap_or r 0) {y = Some (value ds)} (is ∙ (rw (le-leb (value ds) 999999999 low) refl)) in
     (same, rw (same, pow) b)
+
+take_digits : (n : ℕ) (ds : List ℕ) → Are is_digit ds → Are is_digit (take n ds)
+take_digits zero ds a = tt
+take_digits (suc n) [] a = tt
+take_digits (suc n) (d ∷ ds) a = (a.0, take_digits n ds a.1)
+
+-- the decimals that count say less than a whole
+pub billionths_small : (ds : List ℕ) → Are is_digit ds → billionths ds < 10 ^ 9
+billionths_small ds a =
+    let few : length (take 9 ds) ≤ 9 = omega (arith, length-take 9 ds) in
+    let b = few_decimals (take 9 ds) (take_digits 9 ds a) few in
+    elim (cases_lt 9 (length ds)) [
+      | inl h ↦ let e : 9 - length ds ≡ 9 - length (take 9 ds) = omega (arith, length-take 9 ds, h) in rw e b
+      | inr h ↦ let e : length (take 9 ds) ≡ length ds = omega (arith, length-take 9 ds, h) in rw (sym e) b
+    ]

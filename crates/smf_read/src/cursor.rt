@@ -101,9 +101,6 @@ impl<'a> Cursor<'a> {
     pub fn tick(&self) -> Option<u32>
         ensures { result ≡ first_tick (remaining self.now) }
     {
-        if self.rest.is_empty() {
-            return None;
-        }
         match quantity(self.rest) {
             Err(_) => None,
             Ok((delta, _)) => Some(self.tick + delta),

@@ -1,0 +1,5 @@
+pub mod Status
+pub mod Command
+pub mod Lines
+pub mod Source
+pub mod Survey

@@ -1,0 +1,13 @@
+//! The command: what its words ask for, done over any `Files`.
+#![tactic(auto)]
+
+mod lines;
+mod outcome;
+mod retune;
+mod source;
+mod survey;
+mod targets;
+mod words;
+
+pub use outcome::{Fault, Outcome};
+pub use retune::run;
