@@ -19,7 +19,7 @@ is_in t e es is = rw (eq-eqb e.track t is) refl
 pub not_in : (t : ℕ) (e : MidiEvent) (es : List MidiEvent) → (e.track ≡ t → ⊥) → events_in t (e ∷ es) ≡ events_in t es
 not_in t e es not = rw (ne_eqb e.track t not) refl
 
-back_in_place : (t : ℕ) (e : MidiEvent) → e.track ≡ t → placed t (timed e) ≡ e
+pub back_in_place : (t : ℕ) (e : MidiEvent) → e.track ≡ t → placed t (timed e) ≡ e
 back_in_place t e is = let made : ℕ → MidiEvent = λ m. record { tick = e.tick; track = m; what = e.what } in ap made (sym is)
 
 placed_timed : (t : ℕ) (es : List MidiEvent) → map (placed t) (events_in t es) ≡ of_track t es
@@ -29,7 +29,7 @@ placed_timed t (e ∷ es) = elim (cases_Bool (eqb e.track t)) [
   | inr other ↦ rw other (placed_timed t es)
 ]
 
-timed_placed : (t : ℕ) (es : List Timed) → map timed (map (placed t) es) ≡ es
+pub timed_placed : (t : ℕ) (es : List Timed) → map timed (map (placed t) es) ≡ es
 timed_placed t [] = refl
 timed_placed t (e ∷ es) = ap (λ l. e ∷ l) (timed_placed t es)
 

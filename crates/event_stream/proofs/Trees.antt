@@ -89,7 +89,7 @@ place_mended n a tree pos room h i some lt other = elim (cases_eq i a) [
   | inl same ↦
       let x = min (get_or tree (2 * a) 0) (get_or tree (2 * a + 1) 0) in
       let here : get_or (set tree a x) a 0 ≡ min (get_or (set tree a x) (2 * a) 0) (get_or (set tree a x) (2 * a + 1) 0) =
-        get_or-set_same tree a x 0 room ∙ sym (rw (get_or-set_other tree a (2 * a) x 0 (λ z. omega (arith, z, pos)), get_or-set_other tree a (2 * a + 1) x 0 (λ z. omega (arith, z, pos))) refl) in
+      get_or-set_same tree a x 0 room ∙ sym (rw (get_or-set_other tree a (2 * a) x 0 (λ z. omega (arith, z, pos)), get_or-set_other tree a (2 * a + 1) x 0 (λ z. omega (arith, z, pos))) refl) in
       subst (λ m. get_or (set tree a x) m 0 ≡ min (get_or (set tree a x) (2 * m) 0) (get_or (set tree a x) (2 * m + 1) 0)) (sym same) here
   | inr apart ↦ other_place i a _ tree (h i some lt apart) apart (λ z. other (omega (arith, z))) (λ z. other (omega (arith, z)))
 ]

@@ -46,14 +46,18 @@ impl Least {
         self.tree[1]
     }
 
-    /// Puts another number in a place.
-    pub(crate) fn set(&mut self, place: usize, number: u64)
+    /// Puts another number in a place, and gives the least of the numbers then.
+    pub(crate) fn set(&mut self, place: usize, number: u64) -> u64
         requires { place < length self.old }
-        ensures { self.new ≡ slice_set self.old place number }
+        ensures set { self.new ≡ slice_set self.old place number }
+        ensures least { All (λ (k : ℕ). result ≤ k) self.new }
+        ensures among { Contains self.new result }
     {
         let leaf = self.count + place;
         self.tree[leaf] = number;
-        mend(&mut self.tree, self.count, leaf);
+        let count = self.count;
+        mend(&mut self.tree, count, leaf);
+        self.tree[1]
     }
 }
 

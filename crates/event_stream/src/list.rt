@@ -1,9 +1,8 @@
 ghost use Rattle.std.specs.Prelude.{◌≡◌, ◌≤◌, length, map, drop};
 ghost use Rattle.mt_base.specs.Midi.{view};
 
-use mt_base::{Event, What};
-
 use crate::stream::EventStream;
+use mt_base::{Event, What};
 
 /// The events of a list, as a stream.
 #[derive(Clone, Copy, Debug)]
