@@ -134,6 +134,13 @@ track_at_takes bytes x e =
     let s = is_sound a.0 x (track_in a.0.0).fault a.2 in
     subst (λ (y : List ℕ × List ℕ). TookTrack bytes y × IsTrack 0 0 y.0 (events_of y.0)) s.1 (t, track_takes a.0.0 s.0)
 
+pub track_at_whole : (bytes : List ℕ) (x : List ℕ × List ℕ) → track_at bytes ≡ Ok x → (track_in x.0).fault ≡ None
+unfolding track_at next_content
+track_at_whole bytes x e =
+    let a = bind_ok (content_from (suc (length bytes)) bytes) (λ y. sound y (track_in y.0).fault) x e in
+    let s = is_sound a.0 x (track_in a.0.0).fault a.2 in
+    subst (λ (y : List ℕ × List ℕ). (track_in y.0).fault ≡ None) s.1 s.0
+
 track_at_again : (front rest content : List ℕ) → IsTrackChunk front content → (track_in content).fault ≡ None → track_at (front ++ rest) ≡ Ok (content, rest)
 unfolding track_at
 track_at_again front rest content is none = rw (content_again front rest content is, none) refl

@@ -1,5 +1,5 @@
 -- An event takes at least two bytes.
-use Rattle.std.proofs.Common.{◌≡◌, ℕ, zero, suc, ◌+◌, ◌*◌, ◌<◌, ◌≤◌, List, [], ◌∷◌, ◌++◌, length, Result, Ok, Err, Bool, true, false, cond, refl, ap, arith, inl, inr, map, subst, ◌∙◌}
+use Rattle.std.proofs.Common.{◌≡◌, ℕ, zero, suc, ◌+◌, ◌*◌, ◌<◌, ◌≤◌, List, [], ◌∷◌, ◌++◌, length, Result, Ok, Err, None, Bool, true, false, cond, refl, ap, arith, inl, inr, map, subst, ◌∙◌}
 use Rattle.std.proofs.lemmas.List.{length-append}
 use Rattle.midi_model.specs.declared.fault.Stop.{Stop}
 use Rattle.mt_base.specs.declared.event.Msg.{Msg}
@@ -7,7 +7,7 @@ use Rattle.mt_base.specs.Midi.{MidiWhat, Says, SysexOf, MetaOf, Timed, is_end}
 use Rattle.midi_model.specs.Reading.{event_at, IsRunning, Run, last, in_front, continued, track_from, rest_of_track, track_in}
 use Rattle.midi_model.specs.FileText.{track_at, tracks_at, together, events_of}
 use Rattle.midi_model.specs.Spelling.{IsMessage, IsBody, IsTrackChunk}
-use Rattle.midi_model.proofs.Chunks.{track_at_takes}
+use Rattle.midi_model.proofs.Chunks.{track_at_takes, track_at_whole}
 use Rattle.midi_model.proofs.Laws.{event_takes, TookEvent, none_runs, not_nothing, bind_ok, ok_is}
 
 some_data : (s : ℕ) (front : List ℕ) (m : Msg) → IsMessage s front m → 0 < length front
@@ -60,6 +60,13 @@ content_within front content is = omega (
   length-append is.is_chunk.type_bytes (is.is_chunk.size_bytes ++ content),
   length-append is.is_chunk.size_bytes content,
 )
+
+-- a track's content is whole, and no longer than what it is read from
+pub track_at_sound : (bytes : List ℕ) (x : List ℕ × List ℕ) → track_at bytes ≡ Ok x → ((track_in x.0).fault ≡ None) × (length x.0 + length x.1 ≤ length bytes)
+track_at_sound bytes x e =
+    let t = track_at_takes bytes x e in
+    let within = content_within t.0.0 x.0 t.0.1 in
+    (track_at_whole bytes x e, omega (arith, within, ap length t.0.2, length-append t.0.0 x.1))
 
 -- so a file of at most 4,194,304 bytes has at most 2,097,152 events
 pub tracks_count : (count : ℕ) (bytes : List ℕ) (x : List (List ℕ) × List ℕ) → tracks_at count bytes ≡ Ok x → 2 * together (map events_of x.0) + length x.1 ≤ length bytes

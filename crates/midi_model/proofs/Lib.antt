@@ -7,9 +7,15 @@ pub mod Room
 pub mod Runs
 pub mod Takes
 pub mod Tracks
+pub mod Merging
+pub mod Playing
+pub mod Same
 pub mod Steady
+pub mod Timely
 pub mod Channels
 pub mod Fades
 pub mod Parameters
 pub mod Equal
 pub mod Played
+pub mod Writes
+pub mod Spelt

@@ -1,10 +1,12 @@
 -- How reading a track goes on.
-use Rattle.std.proofs.Common.{◌≡◌, ℕ, zero, suc, ◌<◌, List, [], ◌∷◌, length, Result, Ok, Err, Some, true, false, cond, refl, ap, ◌∙◌, arith}
+use Rattle.std.proofs.Common.{◌≡◌, ℕ, zero, suc, ◌<◌, ◌+◌, List, [], ◌∷◌, length, map, Result, Ok, Err, Some, None, ltb, true, false, cond, refl, sym, ap, ◌∙◌, inl, inr, arith}
 use Rattle.midi_model.specs.declared.fault.Stop.{Stop}
+use Rattle.std.proofs.lemmas.Bool.{cases_Bool}
 use Rattle.midi_model.specs.declared.fault.SmfKind.TheVariants.{MissingEnd}
-use Rattle.mt_base.specs.Midi.{Timed, is_end}
-use Rattle.midi_model.specs.Reading.{Run, failed, last, in_front, continued, track_from, rest_of_track, event_at, quantity_at, quantity_from, IsRunning}
-use Rattle.midi_model.proofs.Laws.{shorter, event_takes}
+use Rattle.mt_base.specs.Midi.{Timed, is_end, placed}
+use Rattle.midi_model.specs.Merged.{first_tick}
+use Rattle.midi_model.specs.Reading.{Run, failed, last, in_front, continued, track_from, rest_of_track, event_at, body_at, quantity_at, quantity_from, IsRunning}
+use Rattle.midi_model.proofs.Laws.{shorter, event_takes, bind_ok, guarded, ok_is, done}
 
 -- which continuation is taken doesn't matter where they agree on what was read
 agree : (f g : ℕ → ℕ → List ℕ → Run) (r : Result (Timed × ℕ × List ℕ) Stop) → ((x : Timed × ℕ × List ℕ) → r ≡ Ok x → f x.1 x.0.tick x.2 ≡ g x.1 x.0.tick x.2) → continued f r ≡ continued g r
@@ -54,3 +56,45 @@ no_end running before (b ∷ bytes) h = absurd (omega (arith, h))
 pub no_events : (running before : ℕ) (bytes : List ℕ) → length bytes ≡ 0 → (rest_of_track running before bytes).events ≡ []
 no_events running before [] h = ap (λ r. r.events) (nothing_left running before)
 no_events running before (b ∷ bytes) h = absurd (omega (arith, h))
+
+-- ---- the tick of the first event
+
+tick_is : (running before : ℕ) (bytes : List ℕ) (x : Timed × ℕ × List ℕ) (d : ℕ × List ℕ) → event_at running before bytes ≡ Ok x → quantity_at bytes ≡ Ok d → x.0.tick ≡ before + d.0
+unfolding event_at
+tick_is running before bytes x d e q =
+    let a = bind_ok (quantity_at bytes) _ x e in
+    let same = ok_is a.0 d (sym a.1 ∙ q) in
+    let g = guarded (ltb 268435455 (before + a.0.0)) _ _ x a.2 in
+    let y = bind_ok (body_at running a.0.1) _ x g.1 in
+    let made : Timed × ℕ × List ℕ = (record { tick = before + a.0.0; what = y.0.0 }, y.0.1, y.0.2) in
+    ap (λ (z : Timed × ℕ × List ℕ). z.0.tick) (sym (ok_is made x y.2)) ∙ ap (λ (z : ℕ × List ℕ). before + z.0) same
+
+first_of : (track running before : ℕ) (bytes : List ℕ) (r : Result (Timed × ℕ × List ℕ) Stop) (d : ℕ × List ℕ) → IsRunning running → event_at running before bytes ≡ r → 0 < length bytes
+    → (rest_of_track running before bytes).fault ≡ None → quantity_at bytes ≡ Ok d → first_tick (map (placed track) (rest_of_track running before bytes).events) ≡ Some (before + d.0)
+first_of track running before bytes (Err e) d run is some sound q =
+    absurd (let f = ap (λ r. r.fault) (fails running before bytes e some is) in cc)
+first_of track running before bytes (Ok x) d run is some sound q =
+    let t = tick_is running before bytes x d is q in
+    elim (cases_Bool (is_end x.0.what)) [
+      | inl t1 ↦ ap (λ r. first_tick (map (placed track) r.events)) (ends running before bytes x is t1) ∙ ap Some t
+      | inr f1 ↦ ap (λ r. first_tick (map (placed track) r.events)) (goes_on running before bytes x run is f1) ∙ ap Some t
+    ]
+
+pub first_tick_is : (track running before : ℕ) (bytes : List ℕ) (d : ℕ × List ℕ) → IsRunning running → 0 < length bytes → (rest_of_track running before bytes).fault ≡ None → quantity_at bytes ≡ Ok d
+    → first_tick (map (placed track) (rest_of_track running before bytes).events) ≡ Some (before + d.0)
+first_tick_is track running before bytes d run some sound q = first_of track running before bytes _ d run refl some sound q
+
+no_delta : (running before : ℕ) (bytes : List ℕ) (e : Stop) → quantity_at bytes ≡ Err e → event_at running before bytes ≡ Err e
+unfolding event_at
+no_delta running before bytes e q = rw q refl
+
+-- where nothing is wrong, there is a delta
+pub has_delta : (running before : ℕ) (bytes : List ℕ) (e : Stop) → 0 < length bytes → (rest_of_track running before bytes).fault ≡ None → quantity_at bytes ≡ Err e → ⊥
+has_delta running before bytes e some sound q =
+    let f = ap (λ r. r.fault) (fails running before bytes e some (no_delta running before bytes e q)) in cc
+
+-- where there is a delta, bytes are left
+pub some_left : (bytes : List ℕ) (d : ℕ × List ℕ) → quantity_at bytes ≡ Ok d → 0 < length bytes
+unfolding quantity_at quantity_from
+some_left [] d q = absurd cc
+some_left (b ∷ bytes) d q = omega arith

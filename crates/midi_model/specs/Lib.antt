@@ -1,6 +1,9 @@
 pub mod Reading
 pub mod Spelling
 pub mod FileText
+pub mod Merged
+pub mod Kinds
+pub mod Examples
 pub mod Sysex
 pub mod TuningBytes
 pub mod Params
@@ -12,3 +15,7 @@ pub mod Tuning
 pub mod Receiver
 pub mod Played
 pub mod Bring
+pub mod Select
+pub mod Order
+pub mod Writing
+pub mod FileExamples

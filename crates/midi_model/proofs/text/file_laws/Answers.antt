@@ -1,0 +1,22 @@
+use Rattle.std.proofs.Common.{◌≡◌}
+use Rattle.midi_model.proofs.Files.{file_takes, file_again, one_file, file_or_fault}
+use Rattle.midi_model.proofs.Playing.{spelled_tracks, spelled_playable}
+use Rattle.midi_model.proofs.text.file_laws.Goals as goal
+
+pub returns-clause-one_file : goal.returns-clause-one_file
+returns-clause-one_file c bytes a b is is2 = one_file bytes a b is is2
+
+pub returns-clause-found : goal.returns-clause-found
+returns-clause-found c bytes file e = file_takes bytes file e
+
+pub returns-clause-only : goal.returns-clause-only
+returns-clause-only c bytes file is = file_again bytes file is
+
+pub returns-clause-either : goal.returns-clause-either
+returns-clause-either c bytes = file_or_fault bytes
+
+pub returns-clause-tracks : goal.returns-clause-tracks
+returns-clause-tracks c bytes file few is = spelled_tracks bytes file few is
+
+pub returns-clause-playable : goal.returns-clause-playable
+returns-clause-playable c bytes file few is = spelled_playable bytes file few is

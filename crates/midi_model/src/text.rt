@@ -1,0 +1,16 @@
+ghost use Rattle.std.specs.Prelude.{◌≡◌, ◌<◌, ◌^◌, ◌⊎◌, ℕ, List, length, Ok, Err};
+ghost use Rattle.midi_model.specs.declared.fault.SmfKind.{SmfKind};
+ghost use Rattle.midi_model.specs.FileText.{MidiFile, file_at};
+ghost use Rattle.midi_model.specs.Merged.{merged, AreTracksOf, IsPlayable};
+ghost use Rattle.midi_model.specs.Spelling.{Spells};
+
+/// What bytes spell and what is read from left to right are the same.
+pub fn file_laws()
+    ensures one_file { (bytes : List ℕ) (a b : MidiFile) → Spells bytes a → Spells bytes b → a ≡ b }
+    ensures found { (bytes : List ℕ) (file : MidiFile) → file_at bytes ≡ Ok file → Spells bytes file }
+    ensures only { (bytes : List ℕ) (file : MidiFile) → Spells bytes file → file_at bytes ≡ Ok file }
+    // Bytes spell a file, or they have a first fault and spell none.
+    ensures either { (bytes : List ℕ) → ((file : MidiFile) × Spells bytes file) ⊎ ((fault : ℕ × SmfKind) × (file_at bytes ≡ Err fault) × ((file : MidiFile) → Spells bytes file → ⊥)) }
+    ensures tracks { (bytes : List ℕ) (file : MidiFile) → length bytes < 2 ^ 28 → Spells bytes file → AreTracksOf 0 file.tracks }
+    ensures playable { (bytes : List ℕ) (file : MidiFile) → length bytes < 2 ^ 28 → Spells bytes file → IsPlayable (length file.tracks) (merged file) }
+{}

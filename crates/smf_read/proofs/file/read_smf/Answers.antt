@@ -1,0 +1,8 @@
+use Rattle.smf_read.proofs.Found.{is_found, is_only}
+use Rattle.smf_read.proofs.file.read_smf.Goals as goal
+
+pub returns-clause-found : goal.returns-clause-found
+returns-clause-found c = is_found c.exact.result c.args.bytes.now c.exact.ensures
+
+pub returns-clause-only : goal.returns-clause-only
+returns-clause-only c = is_only c.exact.result c.args.bytes.now c.exact.ensures

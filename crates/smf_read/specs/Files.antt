@@ -1,0 +1,29 @@
+-- What the program's values stand for.
+use Rattle.std.specs.Prelude.{◌≡◌, ℕ, map, Result, Ok, Err}
+use Rattle.midi_model.specs.declared.fault.SmfKind.{SmfKind}
+use Rattle.midi_model.specs.declared.fault.Stop.{Stop}
+use Rattle.smf_read.specs.declared.fault.Halt.{Halt}
+use Rattle.smf_read.specs.declared.fault.Halt.TheVariants as halts
+use Rattle.smf_read.specs.declared.fault.SmfFault.{SmfFault}
+use Rattle.smf_read.specs.declared.fault.SmfFault.TheVariants as faults
+use Rattle.smf_read.specs.declared.smf.Smf.{Smf}
+use Rattle.smf_read.specs.Views.{content_of}
+use Rattle.midi_model.specs.FileText.{MidiFile, made}
+
+abbrev pub view_file : Smf → MidiFile
+view_file f = made f.format f.division (map content_of f.contents.items)
+
+-- What a reader inside gave, unless memory ran out, is what reading on lists gives.
+abbrev pub Halts : {Y : Type 0} → Halt → Result Y Stop → Type 0
+Halts halts.Memory read = Unit {0}
+Halts (halts.At e) read = read ≡ Err e
+
+abbrev pub Finds : {X Y : Type 0} → (X → Y) → Result X Halt → Result Y Stop → Type 0
+Finds view (Ok x) read = read ≡ Ok (view x)
+Finds view (Err e) read = Halts e read
+
+-- The same of the file, with offsets.
+abbrev pub Reads : Result Smf SmfFault → Result MidiFile (ℕ × SmfKind) → Type 0
+Reads (Ok f) read = read ≡ Ok (view_file f)
+Reads (Err faults.Memory) read = Unit {0}
+Reads (Err (faults.At offset kind)) read = read ≡ Err (offset, kind)

@@ -1,0 +1,4 @@
+pub mod Sound
+pub mod Views
+pub mod Files
+pub mod Remaining

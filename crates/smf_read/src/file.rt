@@ -1,0 +1,92 @@
+ghost use Rattle.std.specs.Prelude.{◌≡◌, ◌*◌, ◌<◌, ◌≤◌, ◌^◌, length, take, drop, map, IfOk, Ok};
+ghost use Rattle.std.specs.Int.{w16, w32};
+ghost use Rattle.midi_model.specs.Reading.{Gives, Within, track_in};
+ghost use Rattle.midi_model.specs.FileText.{number, header_at, fields_at, chunk_at, next_content, track_at, tracks_at, all_at, file_at};
+ghost use Rattle.midi_model.specs.FileText.{MidiFile, events_of, together};
+ghost use Rattle.midi_model.specs.Spelling.{Spells};
+ghost use Rattle.smf_read.specs.Views.{content_of, view_header, view_chunk};
+ghost use Rattle.smf_read.specs.Files.{view_file, Finds, Reads};
+ghost use Rattle.smf_read.specs.Sound.{AreSound};
+
+use crate::chunk::{next_content, read_header};
+use crate::cursor::fault_in;
+use crate::fault::{Halt, SmfFault};
+use crate::smf::Smf;
+use midi_model::Stop;
+use std::alloc::Global;
+
+/// The next track.
+#[tactic(auto, unfolding(midi_model::specs::FileText::track_at))]
+fn track(bytes: &[u8]) -> Result<(&[u8], &[u8]), Stop>
+    ensures gives { Gives content_of result (track_at bytes.entry.now) }
+    ensures within { Within result (length bytes.entry.now) }
+{
+    let (content, rest) = next_content(bytes)?;
+    match fault_in(content) {
+        None => Ok((content, rest)),
+        Some(stop) => Err(Stop {
+            left: stop.left + rest.len(),
+            kind: stop.kind,
+        }),
+    }
+}
+
+/// So many tracks.
+fn tracks<'a>(alloc: Global, count: u16, bytes: &'a [u8]) -> Result<(Vec<&'a [u8]>, &'a [u8]), Halt>
+    ensures gives { Finds (λ x. (map content_of x.0.items, x.1.now)) result (tracks_at count bytes.entry.now) }
+    ensures count { IfOk result (λ x. length x.0.items ≡ count) }
+    ensures sound { length bytes.entry.now ≤ 4194304 → IfOk result (λ x. AreSound (map content_of x.0.items)) }
+    ensures together { IfOk result (λ x. 2 * together (map events_of (map content_of x.0.items)) ≤ length bytes.entry.now) }
+{
+    let mut contents = Vec::new(alloc);
+    let mut rest = bytes;
+    for _ in 0..count {
+        match track(rest) {
+            Err(stop) => return Err(Halt::At(stop)),
+            Ok((content, after)) => {
+                contents.push(content)?;
+                rest = after;
+            }
+        }
+    }
+    Ok((contents, rest))
+}
+
+#[tactic(auto, unfolding(midi_model::specs::FileText::all_at))]
+fn all(alloc: Global, bytes: &[u8]) -> Result<Smf<'_>, Halt>
+    requires { length bytes.now ≤ 4194304 }
+    ensures { Finds view_file result (all_at bytes.entry.now) }
+{
+    let (header, rest) = read_header(bytes)?;
+    let (contents, _) = tracks(alloc, header.tracks, rest)?;
+    Ok(Smf::new(header.format, header.division, contents))
+}
+
+#[tactic(auto, unfolding(midi_model::specs::FileText::file_at))]
+fn exact(alloc: Global, bytes: &[u8]) -> Result<Smf<'_>, SmfFault>
+    requires { length bytes.now ≤ 4194304 }
+    ensures { Reads result (file_at bytes.entry.now) }
+{
+    match all(alloc, bytes) {
+        Ok(smf) => Ok(smf),
+        Err(Halt::Memory) => Err(SmfFault::Memory),
+        Err(Halt::At(stop)) => Err(SmfFault::At {
+            offset: bytes.len().saturating_sub(stop.left) as u32,
+            kind: stop.kind,
+        }),
+    }
+}
+
+/// Reads a Standard MIDI File of at most 4,194,304 bytes: the file that the bytes spell, or their
+/// first fault.
+pub fn read_smf(alloc: Global, bytes: &[u8]) -> Result<Smf<'_>, SmfFault>
+    requires { length bytes.now ≤ 4194304 }
+    // What is read is what the bytes spell.
+    ensures found { IfOk result (λ f. Spells bytes.entry.now (view_file f)) }
+    // What the bytes spell is read, unless memory runs out.
+    ensures only { (file : MidiFile) → Spells bytes.entry.now file → Reads result (Ok file) }
+    // Otherwise it is the first fault from the left, with its place.
+    ensures exact { Reads result (file_at bytes.entry.now) }
+{
+    exact(alloc, bytes)
+}
