@@ -12,6 +12,7 @@ pub mod Playing
 pub mod Same
 pub mod Steady
 pub mod Timely
+pub mod Begun
 pub mod Channels
 pub mod Fades
 pub mod Parameters
