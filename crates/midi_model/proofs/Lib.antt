@@ -9,6 +9,8 @@ pub mod Takes
 pub mod Tracks
 pub mod Merging
 pub mod Playing
+pub mod Failing
+pub mod Faulting
 pub mod Steady
 pub mod Channels
 pub mod Fades
