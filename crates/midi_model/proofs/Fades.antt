@@ -4,11 +4,11 @@ use Rattle.std.proofs.lemmas.Bool.{eqb-true}
 use Rattle.mt_base.specs.Midi.{MidiEvent}
 use Rattle.mt_base.specs.declared.event.Msg.{Msg}
 use Rattle.mt_base.specs.declared.event.Msg.TheVariants.{NoteOn, NoteOff, KeyPressure, Control, Program, Pressure, Bend}
-use Rattle.midi_model.specs.Channel.{Role, Kept, EntryHigh, EntryLow, NrpnLow, NrpnHigh, RpnLow, RpnHigh, Silence, Restore, LiftAll, Idle}
+use Rattle.midi_model.specs.Channel.{Role, Stored, EntryHigh, EntryLow, NrpnLow, NrpnHigh, RpnLow, RpnHigh, AllSoundOff, ResetControllers, AllNotesOff, Ignored}
 use Rattle.midi_model.specs.Sysex.{Doing, Plays, Resets, Tunes, Nothing, doing}
 use Rattle.midi_model.specs.Channel.{Channel, control_of, role}
 use Rattle.midi_model.specs.Zones.{Zones, governor}
-use Rattle.midi_model.specs.Notes.{Note, sounds, is_down, is_at, hears, is_pressed, ending, lifting, cut, lift, press, sostenuto, relax, silence, lift_all, Fades, sounding_on}
+use Rattle.midi_model.specs.Notes.{Note, sounds, is_down, is_at, hears, is_pedal_down, ending, releasing, cut_off, release_key, with_pressure, sostenuto, without_pressure, end_all, release_all, Fades, sounding_on}
 use Rattle.midi_model.specs.Music.{Music, quiet, channel_at, begun, notes_turned, notes_after, is_over, settle_note, act, advance, step, play}
 
 fades_same : (n : Note) → Fades n n
@@ -31,16 +31,16 @@ fades_if false n x y h k = k
 fades_ending : (t : ℕ) (n : Note) → Fades n (ending t n)
 fades_ending t n = fades_if (sounds n) n _ n (record { channel = refl; key = refl; onset = refl; velocity = refl; voice = refl; sounds = λ h. absurd cc }) (fades_same n)
 
-fades_lifting : (t v : ℕ) (n : Note) → Fades n (lifting t v n)
+fades_lifting : (t v : ℕ) (n : Note) → Fades n (releasing t v n)
 fades_lifting t v n = fades_if (is_down n) n _ n (record { channel = refl; key = refl; onset = refl; velocity = refl; voice = refl; sounds = λ h. h }) (fades_same n)
 
-fades_cut : (t c k : ℕ) (n : Note) → Fades n (cut t c k n)
+fades_cut : (t c k : ℕ) (n : Note) → Fades n (cut_off t c k n)
 fades_cut t c k n = fades_if (is_at c k n) n (ending t n) n (fades_ending t n) (fades_same n)
 
-fades_lift : (t c k v : ℕ) (n : Note) → Fades n (lift t c k v n)
-fades_lift t c k v n = fades_if (is_at c k n) n (lifting t v n) n (fades_lifting t v n) (fades_same n)
+fades_lift : (t c k v : ℕ) (n : Note) → Fades n (release_key t c k v n)
+fades_lift t c k v n = fades_if (is_at c k n) n (releasing t v n) n (fades_lifting t v n) (fades_same n)
 
-fades_press : (c k v : ℕ) (n : Note) → Fades n (press c k v n)
+fades_press : (c k v : ℕ) (n : Note) → Fades n (with_pressure c k v n)
 fades_press c k v n = fades_if (is_at c k n && sounds n) n _ n (record { channel = refl; key = refl; onset = refl; velocity = refl; voice = refl; sounds = λ h. h }) (fades_same n)
 
 fades_sostenuto : (z : Zones) (c before v : ℕ) (n : Note) → Fades n (sostenuto z c before v n)
@@ -50,19 +50,19 @@ fades_sostenuto z c before v n =
     let to_free : Fades n free = record { channel = refl; key = refl; onset = refl; velocity = refl; voice = refl; sounds = λ h. h } in
     let to_held : Fades n held = record { channel = refl; key = refl; onset = refl; velocity = refl; voice = refl; sounds = λ h. h } in
     fades_if (nat_eq (governor z n.channel) c && sounds n) n _ n
-    (fades_if (is_pressed before) n _ _
-    (fades_if (is_pressed v) n n free (fades_same n) to_free)
-    (fades_if (is_pressed v && is_down n) n held n to_held (fades_same n)))
+    (fades_if (is_pedal_down before) n _ _
+    (fades_if (is_pedal_down v) n n free (fades_same n) to_free)
+    (fades_if (is_pedal_down v && is_down n) n held n to_held (fades_same n)))
     (fades_same n)
 
-fades_relax : (c : ℕ) (n : Note) → Fades n (relax c n)
+fades_relax : (c : ℕ) (n : Note) → Fades n (without_pressure c n)
 fades_relax c n = fades_if (nat_eq n.channel c && sounds n) n _ n (record { channel = refl; key = refl; onset = refl; velocity = refl; voice = refl; sounds = λ h. h }) (fades_same n)
 
-fades_silence : (t : ℕ) (z : Zones) (c : ℕ) (n : Note) → Fades n (silence t z c n)
+fades_silence : (t : ℕ) (z : Zones) (c : ℕ) (n : Note) → Fades n (end_all t z c n)
 fades_silence t z c n = fades_if (hears z c n) n (ending t n) n (fades_ending t n) (fades_same n)
 
-fades_lift_all : (t : ℕ) (z : Zones) (c : ℕ) (n : Note) → Fades n (lift_all t z c n)
-fades_lift_all t z c n = fades_if (hears z c n) n (lifting t 64 n) n (fades_lifting t 64 n) (fades_same n)
+fades_lift_all : (t : ℕ) (z : Zones) (c : ℕ) (n : Note) → Fades n (release_all t z c n)
+fades_lift_all t z c n = fades_if (hears z c n) n (releasing t 64 n) n (fades_lifting t 64 n) (fades_same n)
 
 fades_settle : (ss : List Channel) (z : Zones) (t : ℕ) (n : Note) → Fades n (settle_note ss z t n)
 fades_settle ss z t n = fades_if (is_over ss z n) n (ending t n) n (fades_ending t n) (fades_same n)
@@ -82,7 +82,7 @@ all_same [] = tt
 all_same (n ∷ ns) = (fades_same n, all_same ns)
 
 fade_turned : (m : Music) (t c n v : ℕ) (r : Role) → AllFade m.notes (notes_turned m t c n v r)
-fade_turned m t c n v Kept = pick (nat_eq n 66)
+fade_turned m t c n v Stored = pick (nat_eq n 66)
   where
     old : ℕ
     old = control_of (channel_at m c) 66
@@ -90,18 +90,18 @@ fade_turned m t c n v Kept = pick (nat_eq n 66)
     pick : (b : Bool) → AllFade m.notes (cond b (map (sostenuto m.zones c (control_of (channel_at m c) 66) v) m.notes) m.notes)
     pick true = all_fade (sostenuto m.zones c (control_of (channel_at m c) 66) v) (fades_sostenuto m.zones c (control_of (channel_at m c) 66) v) m.notes
     pick false = all_same m.notes
-fade_turned m t c n v Restore =
+fade_turned m t c n v ResetControllers =
     let f : Note → Note = sostenuto m.zones c (control_of (channel_at m c) 66) 0 in
-    all_fade (λ x. relax c (f x)) (λ x. fades_then x (f x) (relax c (f x)) (fades_sostenuto m.zones c (control_of (channel_at m c) 66) 0 x) (fades_relax c (f x))) m.notes
-fade_turned m t c n v Silence = all_fade (silence t m.zones c) (fades_silence t m.zones c) m.notes
-fade_turned m t c n v LiftAll = all_fade (lift_all t m.zones c) (fades_lift_all t m.zones c) m.notes
+    all_fade (λ x. without_pressure c (f x)) (λ x. fades_then x (f x) (without_pressure c (f x)) (fades_sostenuto m.zones c (control_of (channel_at m c) 66) 0 x) (fades_relax c (f x))) m.notes
+fade_turned m t c n v AllSoundOff = all_fade (end_all t m.zones c) (fades_silence t m.zones c) m.notes
+fade_turned m t c n v AllNotesOff = all_fade (release_all t m.zones c) (fades_lift_all t m.zones c) m.notes
 fade_turned m t c n v EntryHigh = all_same m.notes
 fade_turned m t c n v EntryLow = all_same m.notes
 fade_turned m t c n v NrpnLow = all_same m.notes
 fade_turned m t c n v NrpnHigh = all_same m.notes
 fade_turned m t c n v RpnLow = all_same m.notes
 fade_turned m t c n v RpnHigh = all_same m.notes
-fade_turned m t c n v Idle = all_same m.notes
+fade_turned m t c n v Ignored = all_same m.notes
 
 -- how many sound on a key never grows while notes fade
 fewer : (c k : ℕ) (ns xs : List Note) → AllFade ns xs → sounding_on c k xs ≤ sounding_on c k ns
@@ -121,8 +121,8 @@ fewer c k (n ∷ ns) (x ∷ xs) h =
     pick true true true h = omega arith
     pick true true false h = (let e : false ≡ true = h refl in absurd cc)
 
--- none is left on a key whose notes were cut
-none_cut : (t c k : ℕ) (ns : List Note) → sounding_on c k (map (cut t c k) ns) ≡ 0
+-- none is left on a key whose notes were cut off
+none_cut : (t c k : ℕ) (ns : List Note) → sounding_on c k (map (cut_off t c k) ns) ≡ 0
 none_cut t c k [] = refl
 none_cut t c k (n ∷ ns) = rw (none_cut t c k ns) (pick (is_at c k n) refl)
   where
@@ -139,16 +139,16 @@ counted_append : (c k : ℕ) (xs ys : List Note) → sounding_on c k (xs ++ ys) 
 counted_append c k [] ys = omega arith
 counted_append c k (x ∷ xs) ys = omega (arith, counted_append c k xs ys)
 
-new_on : (m : Music) (t c k v d j : ℕ) → sounding_on d j (map (cut t c k) m.notes) ≤ 1 → sounding_on d j (map (cut t c k) m.notes ++ begun m t c k v ∷ []) ≤ 1
-new_on m t c k v d j h = rw (counted_append d j (map (cut t c k) m.notes) (begun m t c k v ∷ [])) (pick (nat_eq c d) (nat_eq k j) refl refl)
+new_on : (m : Music) (t c k v d j : ℕ) → sounding_on d j (map (cut_off t c k) m.notes) ≤ 1 → sounding_on d j (map (cut_off t c k) m.notes ++ begun m t c k v ∷ []) ≤ 1
+new_on m t c k v d j h = rw (counted_append d j (map (cut_off t c k) m.notes) (begun m t c k v ∷ [])) (pick (nat_eq c d) (nat_eq k j) refl refl)
   where
-    pick : (a b : Bool) → nat_eq c d ≡ a → nat_eq k j ≡ b → sounding_on d j (map (cut t c k) m.notes) + (cond ((a && b) && true) 1 0 + 0) ≤ 1
+    pick : (a b : Bool) → nat_eq c d ≡ a → nat_eq k j ≡ b → sounding_on d j (map (cut_off t c k) m.notes) + (cond ((a && b) && true) 1 0 + 0) ≤ 1
     pick false b e f = omega (arith, h)
     pick true false e f = omega (arith, h)
     pick true true e f =
         let same_channel : c ≡ d = eqb-true c d e in
         let same_key : k ≡ j = eqb-true k j f in
-        let none : sounding_on d j (map (cut t c k) m.notes) ≡ 0 = ap (λ x. sounding_on x j (map (cut t c k) m.notes)) (sym same_channel) ∙ ap (λ x. sounding_on c x (map (cut t c k) m.notes)) (sym same_key) ∙ none_cut t c k m.notes in
+        let none : sounding_on d j (map (cut_off t c k) m.notes) ≡ 0 = ap (λ x. sounding_on x j (map (cut_off t c k) m.notes)) (sym same_channel) ∙ ap (λ x. sounding_on c x (map (cut_off t c k) m.notes)) (sym same_key) ∙ none_cut t c k m.notes in
         omega (arith, none)
 
 abbrev AtMostOne : List Note → Type 0
@@ -158,10 +158,10 @@ still_one : (ns xs : List Note) → AllFade ns xs → AtMostOne ns → AtMostOne
 still_one ns xs f h = λ c k. omega (arith, fewer c k ns xs f, h c k)
 
 one_after : (m : Music) (t : ℕ) (msg : Msg) → AtMostOne m.notes → AtMostOne (notes_after m t msg)
-one_after m t (NoteOn c k zero) h = still_one m.notes _ (all_fade (lift t c k 64) (fades_lift t c k 64) m.notes) h
-one_after m t (NoteOn c k (suc v)) h = λ d j. new_on m t c k (suc v) d j (still_one m.notes (map (cut t c k) m.notes) (all_fade (cut t c k) (fades_cut t c k) m.notes) h d j)
-one_after m t (NoteOff c k v) h = still_one m.notes _ (all_fade (lift t c k v) (fades_lift t c k v) m.notes) h
-one_after m t (KeyPressure c k v) h = still_one m.notes _ (all_fade (press c k v) (fades_press c k v) m.notes) h
+one_after m t (NoteOn c k zero) h = still_one m.notes _ (all_fade (release_key t c k 64) (fades_lift t c k 64) m.notes) h
+one_after m t (NoteOn c k (suc v)) h = λ d j. new_on m t c k (suc v) d j (still_one m.notes (map (cut_off t c k) m.notes) (all_fade (cut_off t c k) (fades_cut t c k) m.notes) h d j)
+one_after m t (NoteOff c k v) h = still_one m.notes _ (all_fade (release_key t c k v) (fades_lift t c k v) m.notes) h
+one_after m t (KeyPressure c k v) h = still_one m.notes _ (all_fade (with_pressure c k v) (fades_press c k v) m.notes) h
 one_after m t (Control c n v) h = still_one m.notes _ (fade_turned m t c n v (role n)) h
 one_after m t (Program c p) h = h
 one_after m t (Pressure c v) h = h

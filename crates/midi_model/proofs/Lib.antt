@@ -11,9 +11,13 @@ pub mod Merging
 pub mod Playing
 pub mod Failing
 pub mod Faulting
+pub mod Same
 pub mod Steady
+pub mod Timely
 pub mod Channels
 pub mod Fades
 pub mod Parameters
 pub mod Equal
 pub mod Played
+pub mod Writes
+pub mod Spelt

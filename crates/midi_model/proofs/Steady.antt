@@ -5,7 +5,7 @@ use Rattle.mt_base.specs.Midi.{MidiEvent, channel_of}
 use Rattle.mt_base.specs.declared.event.Msg.{Msg}
 use Rattle.midi_model.specs.Sysex.{Doing, Plays, Resets, Tunes, Nothing, doing}
 use Rattle.midi_model.specs.Channel.{Channel, apply}
-use Rattle.midi_model.specs.Zones.{Zones, ranged, ranged_from}
+use Rattle.midi_model.specs.Zones.{Zones, bend_ranges, bend_ranges_from}
 use Rattle.midi_model.specs.Notes.{Note, ending}
 use Rattle.midi_model.specs.Music.{Music, quiet, channel_at, asks, zones_after, channels_after, act, is_over, settle_note, advance, step, play}
 
@@ -50,19 +50,19 @@ pub all_ended : (ss : List Channel) (z : Zones) (t u : ℕ) (ns : List Note) →
 all_ended ss z t u [] = refl
 all_ended ss z t u (n ∷ ns) = rw (settle_ended ss z t u n, all_ended ss z t u ns) refl
 
-length-ranged_from : (z : Zones) (m c : ℕ) (ss : List Channel) → length (ranged_from z m c ss) ≡ length ss
-length-ranged_from z m c [] = refl
-length-ranged_from z m c (s ∷ ss) = ap suc (length-ranged_from z m (c + 1) ss)
+length-bend_ranges_from : (z : Zones) (m c : ℕ) (ss : List Channel) → length (bend_ranges_from z m c ss) ≡ length ss
+length-bend_ranges_from z m c [] = refl
+length-bend_ranges_from z m c (s ∷ ss) = ap suc (length-bend_ranges_from z m (c + 1) ss)
 
-length-ranged : (a : Option (ℕ × ℕ)) (z : Zones) (ss : List Channel) → length (ranged a z ss) ≡ length ss
-length-ranged None z ss = refl
-length-ranged (Some (m, zero)) z ss = refl
-length-ranged (Some (m, suc n)) z ss = length-ranged_from z m 0 ss
+length-bend_ranges : (a : Option (ℕ × ℕ)) (z : Zones) (ss : List Channel) → length (bend_ranges a z ss) ≡ length ss
+length-bend_ranges None z ss = refl
+length-bend_ranges (Some (m, zero)) z ss = refl
+length-bend_ranges (Some (m, suc n)) z ss = length-bend_ranges_from z m 0 ss
 
 pub length-channels : (m : Music) (msg : Msg) → length (channels_after m msg) ≡ length m.channels
 length-channels m msg =
     let c : ℕ = channel_of msg in
-    length-ranged (asks m msg) (zones_after m msg) (set m.channels c (apply (channel_at m c) msg)) ∙ length-set m.channels c (apply (channel_at m c) msg)
+    length-bend_ranges (asks m msg) (zones_after m msg) (set m.channels c (apply (channel_at m c) msg)) ∙ length-set m.channels c (apply (channel_at m c) msg)
 
 pub steady-quiet : Steady quiet
 steady-quiet = record { settled = λ t. refl; wide = refl }

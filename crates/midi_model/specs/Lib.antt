@@ -6,6 +6,7 @@ pub mod Kinds
 pub mod Faults
 pub mod Examples
 pub mod Sysex
+pub mod TuningBytes
 pub mod Params
 pub mod Channel
 pub mod Zones
@@ -15,3 +16,7 @@ pub mod Tuning
 pub mod Receiver
 pub mod Played
 pub mod Bring
+pub mod Select
+pub mod Order
+pub mod Writing
+pub mod FileExamples

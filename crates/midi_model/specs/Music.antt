@@ -1,26 +1,29 @@
--- The receiver without its tuning: one step, and the fold.
+-- The receiver without its tuning: sixteen channels, the zones, and all notes in the order of their note ons; what one event
+-- does to them, and a list of events (this project's profile of MIDI 1.0 and MPE 1.0).
 use Rattle.std.specs.Prelude.{ℕ, zero, suc, List, [], ◌∷◌, ◌++◌, Bool, false, ◌&&◌, ◌||◌, not, nat_eq, if◌then◌else◌, Option, Some, None, is_some, map, min, set, get_or, replicate}
 use Rattle.mt_base.specs.Midi.{MidiEvent, channel_of}
 use Rattle.mt_base.specs.declared.event.Msg.{Msg}
 use Rattle.mt_base.specs.declared.event.Msg.TheVariants.{NoteOn, NoteOff, KeyPressure, Control}
-use Rattle.midi_model.specs.Channel.{Role, Kept, EntryHigh, Silence, Restore, LiftAll}
+use Rattle.midi_model.specs.Channel.{Role, Stored, EntryHigh, AllSoundOff, ResetControllers, AllNotesOff}
 use Rattle.midi_model.specs.Sysex.{Doing, Plays, Resets, Tunes, Nothing, doing}
 use Rattle.midi_model.specs.Channel.{Channel, State, default_channel, control_of, role, Target, ZoneSize, target, apply}
-use Rattle.midi_model.specs.Zones.{Zones, no_zones, governor, zones_with, ranged}
-use Rattle.midi_model.specs.Notes.{Note, sounds, is_at, is_pressed, cut, lift, press, sostenuto, relax, silence, lift_all, ending}
+use Rattle.midi_model.specs.Zones.{Zones, no_zones, governor, zones_with, bend_ranges}
+use Rattle.midi_model.specs.Notes.{Note, sounds, is_at, is_pedal_down, cut_off, release_key, with_pressure, sostenuto, without_pressure, end_all, release_all, ending}
 
 pub record Music : Type 0 where
   pub channels : List Channel
   pub zones : Zones
   pub notes : List Note
 
+-- at the start: defaults, no zone, no note
 abbrev pub quiet : Music
 quiet = record { channels = replicate 16 default_channel; zones = no_zones; notes = [] }
 
 abbrev pub channel_at : Music → ℕ → Channel
 channel_at m c = get_or m.channels c default_channel
 
--- the zone that data entry asks for, by its master and its size
+-- the zone that data entry of RPN 6 asks for, by its master and its size; more than 15 members count as 15, and on channels
+-- other than 1 and 16 it asks for none
 abbrev pub asked : ℕ → ℕ → Target → Option (ℕ × ℕ)
 asked c v ZoneSize = if nat_eq c 0 || nat_eq c 15 then Some (c, min v 15) else None
 asked c v _ = None
@@ -39,8 +42,9 @@ zones_after m msg = zones_with (asks m msg) m.zones
 abbrev pub channels_after : Music → Msg → List Channel
 channels_after m msg =
     let c = channel_of msg in
-    ranged (asks m msg) (zones_after m msg) (set m.channels c (apply (channel_at m c) msg))
+    bend_ranges (asks m msg) (zones_after m msg) (set m.channels c (apply (channel_at m c) msg))
 
+-- the note that a note on begins
 abbrev pub begun : Music → ℕ → ℕ → ℕ → ℕ → Note
 begun m t c k v = record {
   channel = c;
@@ -54,38 +58,42 @@ begun m t c k v = record {
   ended = None;
 }
 
+-- what a controller does to the notes
 abbrev pub notes_turned : Music → ℕ → ℕ → ℕ → ℕ → Role → List Note
-notes_turned m t c n v Kept = if nat_eq n 66 then map (sostenuto m.zones c (control_of (channel_at m c) 66) v) m.notes else m.notes
-notes_turned m t c n v Restore = map (λ x. relax c (sostenuto m.zones c (control_of (channel_at m c) 66) 0 x)) m.notes
-notes_turned m t c n v Silence = map (silence t m.zones c) m.notes
-notes_turned m t c n v LiftAll = map (lift_all t m.zones c) m.notes
+notes_turned m t c n v Stored = if nat_eq n 66 then map (sostenuto m.zones c (control_of (channel_at m c) 66) v) m.notes else m.notes
+notes_turned m t c n v ResetControllers = map (λ x. without_pressure c (sostenuto m.zones c (control_of (channel_at m c) 66) 0 x)) m.notes
+notes_turned m t c n v AllSoundOff = map (end_all t m.zones c) m.notes
+notes_turned m t c n v AllNotesOff = map (release_all t m.zones c) m.notes
 notes_turned m t c n v _ = m.notes
 
+-- what a message does to the notes; a note on with velocity 0 is a note off with velocity 64
 abbrev pub notes_after : Music → ℕ → Msg → List Note
-notes_after m t (NoteOn c k zero) = map (lift t c k 64) m.notes
-notes_after m t (NoteOn c k (suc v)) = map (cut t c k) m.notes ++ begun m t c k (suc v) ∷ []
-notes_after m t (NoteOff c k v) = map (lift t c k v) m.notes
-notes_after m t (KeyPressure c k v) = map (press c k v) m.notes
+notes_after m t (NoteOn c k zero) = map (release_key t c k 64) m.notes
+notes_after m t (NoteOn c k (suc v)) = map (cut_off t c k) m.notes ++ begun m t c k (suc v) ∷ []
+notes_after m t (NoteOff c k v) = map (release_key t c k v) m.notes
+notes_after m t (KeyPressure c k v) = map (with_pressure c k v) m.notes
 notes_after m t (Control c n v) = notes_turned m t c n v (role n)
 notes_after m t _ = m.notes
 
 abbrev pub act : ℕ → Msg → Music → Music
 act t msg m = record { channels = channels_after m msg; zones = zones_after m msg; notes = notes_after m t msg }
 
--- the pedal that holds a note
+-- the value of the hold pedal, controller 64, that a note listens to
 abbrev pub pedal : List Channel → Zones → Note → ℕ
 pedal ss z n = control_of (get_or ss (governor z n.channel) default_channel) 64
 
--- whether nothing holds the note any more
+-- whether nothing holds the note any more: its key is up, sostenuto doesn't hold it, and its hold pedal is up
 abbrev pub is_over : List Channel → Zones → Note → Bool
-is_over ss z n = is_some n.release && (not n.captured && not (is_pressed (pedal ss z n)))
+is_over ss z n = is_some n.release && (not n.captured && not (is_pedal_down (pedal ss z n)))
 
 abbrev pub settle_note : List Channel → Zones → ℕ → Note → Note
 settle_note ss z t n = if is_over ss z n then ending t n else n
 
+-- after each message every note that nothing holds ends
 abbrev pub settle : ℕ → Music → Music
 settle t m = record { channels = m.channels; zones = m.zones; notes = map (settle_note m.channels m.zones t) m.notes }
 
+-- a reset: every note ends, and all has its defaults
 abbrev pub reset : ℕ → Music → Music
 reset t m = record { channels = quiet.channels; zones = quiet.zones; notes = map (ending t) m.notes }
 
@@ -95,9 +103,11 @@ advance t Resets m = reset t m
 advance t (Tunes r) m = m
 advance t Nothing m = m
 
+-- one event
 abbrev pub step : Music → MidiEvent → Music
 step m e = advance e.tick (doing e.what) m
 
+-- a list of events
 abbrev pub play : Music → List MidiEvent → Music
 play m [] = m
 play m (e ∷ es) = play (step m e) es

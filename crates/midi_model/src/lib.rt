@@ -3,10 +3,15 @@
 
 mod fault;
 mod order;
+mod receiver;
 mod text;
 mod worked;
 
 pub use fault::{SmfKind, Stop};
 pub use order::{merged_example, merged_order};
+pub use receiver::{
+    bring_examples, controller_examples, music_hears_no_tuning, pedal_examples, receiver_laws,
+    reset_examples, silent_at_first, tuning_examples, zone_examples,
+};
 pub use text::file_laws;
 pub use worked::file_examples;

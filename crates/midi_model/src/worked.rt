@@ -3,7 +3,7 @@ ghost use Rattle.mt_base.specs.declared.event.Msg.TheVariants.{NoteOn, NoteOff};
 ghost use Rattle.mt_base.specs.Midi.{Says, end_of_track};
 ghost use Rattle.midi_model.specs.declared.fault.SmfKind.TheVariants.{NotMidi, BadHeader, Format2, Truncated, MissingTrack, BadDelta, NoStatus, BadStatus, BadData, MissingEnd, TrackTooLong, TooManyTracks};
 ghost use Rattle.midi_model.specs.FileText.{file_at};
-ghost use Rattle.midi_model.specs.Examples.{one_track, header_of, at};
+ghost use Rattle.midi_model.specs.FileExamples.{one_track, header_of, at};
 
 /// Worked files: what their bytes spell, or the offset and kind of their first fault.
 pub fn file_examples()

@@ -1,5 +1,5 @@
 -- Pitches without logarithms (this project's own).
-use Rattle.std.specs.Prelude.{ℕ, ◌*◌, ◌^◌, ◌≡◌, ◌<◌, ◌≤◌, ℤ, pos, ◌+ℤ◌, ◌-ℤ◌}
+use Rattle.std.specs.Prelude.{ℕ, zero, suc, ◌*◌, ◌^◌, ◌≡◌, ◌<◌, ◌≤◌, ℤ, pos, ◌+ℤ◌, ◌-ℤ◌}
 use Rattle.mt_base.specs.Grains.{octave}
 
 -- octave * log2 (a / b) + c grains above key 0, for a and b above 0
@@ -41,3 +41,8 @@ added p q = record { a = p.a * q.a; b = p.b * q.b; c = p.c +ℤ q.c }
 
 abbrev pub subtracted : Pitch → Pitch → Pitch
 subtracted p q = record { a = p.a * q.b; b = p.b * q.a; c = p.c -ℤ q.c }
+
+-- the sum of j equal pitches
+abbrev pub times : ℕ → Pitch → Pitch
+times zero p = exactly (pos 0)
+times (suc j) p = added p (times j p)

@@ -3,6 +3,7 @@
 
 mod channel;
 mod event;
+pub mod laws;
 mod memory;
 mod pair;
 mod pitch;

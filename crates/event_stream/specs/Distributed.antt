@@ -1,0 +1,30 @@
+-- A list of events, dealt out to its tracks.
+use Rattle.std.specs.Prelude.{◌≡◌, ◌<◌, ◌≤◌, ℕ, zero, suc, List, [], ◌∷◌, map, length, get_or, false}
+use Rattle.mt_base.specs.Midi.{Timed, MidiEvent}
+use Rattle.mt_base.specs.Valid.{IsValidEvent}
+use Rattle.midi_model.specs.Merged.{of_track}
+use Rattle.midi_model.specs.Writing.{Written, written}
+
+-- an event without its track
+abbrev pub timed : MidiEvent → Timed
+timed e = record { tick = e.tick; what = e.what }
+
+-- the events of one track, in the order of the list
+abbrev pub events_in : ℕ → List MidiEvent → List Timed
+events_in track es = map timed (of_track track es)
+
+-- so many tracks, the first of which has a number
+abbrev pub distributed_from : ℕ → ℕ → List MidiEvent → List (List Timed)
+distributed_from track zero es = []
+distributed_from track (suc n) es = events_in track es ∷ distributed_from (suc track) n es
+
+-- For each of so many tracks its events.
+abbrev pub distributed : ℕ → List MidiEvent → List (List Timed)
+distributed tracks es = distributed_from 0 tracks es
+
+-- An event that may be put into such tracks: it is valid, its track is there and not ended, and its tick isn't before the last.
+pub record MayPut (texts : List Written) (e : MidiEvent) : Type 0 where
+  pub valid : IsValidEvent e
+  pub exists : e.track < length texts
+  pub open_still : (get_or texts e.track (written [])).ended ≡ false
+  pub in_order : (get_or texts e.track (written [])).tick ≤ e.tick

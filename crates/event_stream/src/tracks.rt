@@ -1,0 +1,66 @@
+ghost use Rattle.std.specs.Prelude.{◌≡◌, ◌<◌, ◌≤◌, ℕ, List, [], ◌∷◌, ◌++◌, map, get_or, slice_set, length, true, false, All, IfOk, OnOk, OnErr};
+ghost use Rattle.mt_base.specs.Midi.{MidiEvent, view};
+ghost use Rattle.mt_base.specs.Valid.{IsValidEvent};
+ghost use Rattle.midi_model.specs.Merged.{merged_tracks, IsPlayable};
+ghost use Rattle.midi_model.specs.Writing.{Written, written, with_event};
+ghost use Rattle.event_stream.specs.Distributed.{timed, distributed};
+
+use mt_base::{Event, Memory};
+use smf_write::TrackText;
+use std::alloc::Global;
+use std::marker::Model;
+
+/// The tracks of a file to be, into which events are put.
+#[derive(Drop)]
+pub struct TrackSet {
+    tracks: Vec<TrackText>,
+}
+
+impl Model for TrackSet {
+    ghost use Rattle.std.specs.Prelude.{List};
+    ghost use Rattle.midi_model.specs.Writing.{Written};
+
+    ghost Value = { List Written };
+
+    ghost view = { λ s. s.tracks.items };
+
+    ghost invariant = { λ s. Unit {0} };
+}
+
+impl TrackSet {
+    /// So many tracks without events.
+    pub fn new(alloc: Global, tracks: u16) -> Result<TrackSet, Memory>
+        ensures stands { IfOk result (λ set. set ≡ map written (distributed tracks [])) }
+        ensures count { IfOk result (λ set. length set ≡ tracks) }
+    {
+        let mut texts = Vec::new(alloc);
+        for _ in 0..tracks {
+            texts.push(TrackText::new(alloc))?;
+        }
+        Ok(TrackSet { tracks: texts })
+    }
+
+    /// Appends an event to its track. The set then stands for the list that it stood for before, with
+    /// the event at its end. On `Memory` the set is unchanged.
+    pub fn put(&mut self, event: &Event<'_>) -> Result<(), Memory>
+        requires valid { IsValidEvent (view event.now) }
+        requires exists { event.now.track < length self.old }
+        requires open { (get_or self.old event.now.track (written [])).ended ≡ false }
+        requires order { (get_or self.old event.now.track (written [])).tick ≤ event.now.tick }
+        ensures appended { OnOk result (self.new ≡ slice_set self.old event.now.track (with_event (get_or self.old event.now.track (written [])) (timed (view event.now)))) }
+        ensures stands { (tracks : ℕ) (es : List MidiEvent) → self.old ≡ map written (distributed tracks es) → OnOk result (self.new ≡ map written (distributed tracks (es ++ view event.now ∷ []))) }
+        ensures unchanged { OnErr result (self.new ≡ self.old) }
+    {
+        self.tracks[event.track as usize].put(event.tick, &event.what)
+    }
+
+    /// The tracks, in their order. Where the set stands for a playable list, each is ended, and merged
+    /// they are the list again.
+    pub fn into_tracks(self) -> Vec<TrackText>
+        ensures tracks { result.items ≡ self }
+        ensures ended { (tracks : ℕ) (es : List MidiEvent) → self ≡ map written (distributed tracks es) → IsPlayable tracks es → All (λ (t : Written). t.ended ≡ true) result.items }
+        ensures merged_again { (tracks : ℕ) (es : List MidiEvent) → IsPlayable tracks es → merged_tracks (distributed tracks es) ≡ es }
+    {
+        self.tracks
+    }
+}

@@ -1,0 +1,4 @@
+pub mod Squarings
+pub mod Roots
+pub mod Leading
+pub mod Bounds

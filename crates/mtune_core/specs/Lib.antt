@@ -1,0 +1,6 @@
+pub mod Status
+pub mod Command
+pub mod Lines
+pub mod Source
+pub mod Survey
+pub mod Putting

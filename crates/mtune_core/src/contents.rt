@@ -1,0 +1,53 @@
+ghost use Rattle.std.specs.Prelude.{◌≤◌, length, IfOk};
+
+use crate::outcome::Fault;
+use mtune_files::{Files, LoadFault, Which};
+use scl_text::{Scale, SclFault, read_scl};
+use smf_read::{Smf, SmfFault, read_smf};
+use std::alloc::Global;
+
+/// The most bytes that a scale may have.
+pub const TEXT_LIMIT: u32 = 262_144;
+
+/// The most bytes that an input may have.
+pub const INPUT_LIMIT: u32 = 4_194_304;
+
+/// The content at a name, of at most `limit` bytes.
+pub fn load<F: Files>(
+    alloc: Global,
+    files: &mut F,
+    which: Which,
+    name: &str,
+    limit: u32,
+) -> Result<Vec<u8>, Fault>
+    ensures { IfOk result (λ v. length v.items ≤ limit) }
+{
+    match files.load(alloc, which, name, limit) {
+        Ok(content) => Ok(content),
+        Err(LoadFault::Failed) => Err(Fault::Load { which }),
+        Err(LoadFault::TooLong) => Err(Fault::TooLong { which }),
+        Err(LoadFault::Memory) => Err(Fault::Memory),
+    }
+}
+
+/// The scale of a text.
+pub fn read_scale(alloc: Global, text: &[u8]) -> Result<Scale, Fault>
+    requires { length text.now ≤ 262144 }
+{
+    match read_scl(alloc, text) {
+        Ok(scale) => Ok(scale),
+        Err(SclFault::At { line, kind }) => Err(Fault::Scl { line, kind }),
+        Err(SclFault::Memory) => Err(Fault::Memory),
+    }
+}
+
+/// The file of an input.
+pub fn read_input(alloc: Global, bytes: &[u8]) -> Result<Smf<'_>, Fault>
+    requires { length bytes.now ≤ 4194304 }
+{
+    match read_smf(alloc, bytes) {
+        Ok(smf) => Ok(smf),
+        Err(SmfFault::At { offset, kind }) => Err(Fault::Smf { offset, kind }),
+        Err(SmfFault::Memory) => Err(Fault::Memory),
+    }
+}

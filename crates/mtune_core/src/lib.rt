@@ -1,0 +1,15 @@
+//! The command: what its words ask for, done over any `Files`.
+#![tactic(auto)]
+
+mod contents;
+mod dump;
+mod lines;
+mod outcome;
+mod retune;
+mod source;
+mod survey;
+mod targets;
+mod words;
+
+pub use outcome::{Fault, Outcome};
+pub use retune::run;

@@ -1,0 +1,112 @@
+ghost use Rattle.std.specs.Prelude.{◌≡◌, ◌≤◌, ◌++◌, ◌+◌, length, codes, decimal, IfOk};
+ghost use Rattle.mtune_core.specs.Lines.{fault_line, which_name, report_text};
+
+use crate::outcome::Fault;
+use arrayvec::ArrayString;
+use itoa::Buffer;
+use mt_base::Memory;
+use mtune_files::Which;
+use std::alloc::Global;
+
+/// Room for each line of a fault.
+pub type Line = ArrayString<128>;
+
+/// Appends a text and a number.
+fn push(line: &mut Line, text: &str, number: u32)
+    requires { length line.old.bytes + length text.now ≤ 88 }
+    ensures text { line.new.bytes ≡ line.old.bytes ++ text.now ++ decimal number }
+    ensures short { length line.new.bytes ≤ length line.old.bytes + length text.now + 10 }
+{
+    line.push_str(text);
+    line.push_str(Buffer::new().format(number));
+}
+
+/// A line of a text and a number.
+fn one(text: &str, number: u32) -> Line
+    requires { length text.now ≤ 40 }
+    ensures { result.bytes ≡ text.now ++ decimal number ++ codes "\n" }
+{
+    let mut line = Line::new();
+    push(&mut line, text, number);
+    line.push_str("\n");
+    line
+}
+
+/// A line of a text and a number, and again.
+fn two(text: &str, number: u32, then: &str, other: u32) -> Line
+    requires text { length text.now ≤ 40 }
+    requires more { length then.now ≤ 10 }
+    ensures { result.bytes ≡ text.now ++ decimal number ++ then.now ++ decimal other ++ codes "\n" }
+{
+    let mut line = Line::new();
+    push(&mut line, text, number);
+    push(&mut line, then, other);
+    line.push_str("\n");
+    line
+}
+
+/// A line about a content.
+fn about(text: &str, which: Which) -> Line
+    requires { length text.now ≤ 40 }
+    ensures { result.bytes ≡ text.now ++ which_name which ++ codes "\n" }
+{
+    let mut line = Line::new();
+    line.push_str(text);
+    line.push_str(match which {
+        Which::Scale => "scale",
+        Which::Map => "map",
+        Which::Input => "input",
+    });
+    line.push_str("\n");
+    line
+}
+
+/// A line of a text alone.
+fn plain(text: &str) -> Line
+    requires { length text.now ≤ 40 }
+    ensures { result.bytes ≡ text.now }
+{
+    let mut line = Line::new();
+    line.push_str(text);
+    line
+}
+
+/// The line of a fault, with its line feed; `Say` has none. It takes no memory.
+pub fn line_of(fault: &Fault) -> Line
+    ensures { result.bytes ≡ fault_line fault.now }
+{
+    match fault {
+        Fault::Usage { kind } => one("mtune: usage ", u32::from(*kind)),
+        Fault::NotYet { kind } => one("mtune: not yet ", u32::from(*kind)),
+        Fault::Load { which } => about("mtune: cannot load ", *which),
+        Fault::TooLong { which } => about("mtune: too long ", *which),
+        Fault::Scl { line, kind } => {
+            two(
+                "mtune: scale line ",
+                *line,
+                " kind ",
+                u32::from(kind.number()),
+            )
+        }
+        Fault::Smf { offset, kind } => two(
+            "mtune: input byte ",
+            *offset,
+            " kind ",
+            u32::from(kind.number()),
+        ),
+        Fault::Store => plain("mtune: cannot store\n"),
+        Fault::Say => Line::new(),
+        Fault::Memory => plain("mtune: out of memory\n"),
+    }
+}
+
+/// The report: the route, the number of retuned notes, the number of their channels.
+pub fn report(alloc: Global, notes: u32, channels: u32) -> Result<Vec<u8>, Memory>
+    ensures { IfOk result (λ text. text.items ≡ report_text notes channels) }
+{
+    let mut text = Vec::new(alloc);
+    text.extend_from_slice(b"route dump\n")?;
+    text.extend_from_slice(one("notes ", notes).as_str().as_bytes())?;
+    text.extend_from_slice(one("channels ", channels).as_str().as_bytes())?;
+    Ok(text)
+}

@@ -1,0 +1,98 @@
+use crate::{Fault, Outcome, run};
+use midi_model::SmfKind;
+use mtune_files::{MemFiles, Which};
+use scl_text::SclKind;
+use std::alloc::Global;
+use std::process::Abort;
+use std::test::Fail;
+
+const E12: &str = "e12\n12\n100.0\n200.0\n300.0\n400.0\n500.0\n600.0\n700.0\n800.0\n900.0\n1000.0\n1100.0\n1200.0\n";
+
+/// One note of key 69 on the first channel, from tick 0 to 480.
+const ONE_NOTE: [u8; 35] = [
+    0x4d, 0x54, 0x68, 0x64, 0x00, 0x00, 0x00, 0x06, 0x00, 0x00, 0x00, 0x01, 0x01, 0xe0, 0x4d, 0x54,
+    0x72, 0x6b, 0x00, 0x00, 0x00, 0x0d, 0x00, 0x90, 0x45, 0x40, 0x83, 0x60, 0x80, 0x45, 0x40, 0x00,
+    0xff, 0x2f, 0x00,
+];
+
+const WORDS: [&str; 8] = [
+    "--scale", "e12.scl", "--a440", "--route", "dump", "--out", "out.mid", "in.mid",
+];
+
+fn files(alloc: Global, scale: &str, input: &[u8]) -> Result<MemFiles, Fail> {
+    let mut files = MemFiles::new(alloc);
+    files.add("e12.scl", scale.as_bytes())?;
+    files.add("in.mid", input)?;
+    Ok(files)
+}
+
+/// A header chunk and one track chunk.
+fn file(alloc: Global, format: u8, tracks: u8, contents: &[&[u8]]) -> Result<Vec<u8>, Fail> {
+    let mut bytes = Vec::new(alloc);
+    bytes.extend_from_slice(b"MThd\x00\x00\x00\x06\x00")?;
+    bytes.push(format)?;
+    bytes.push(0)?;
+    bytes.push(tracks)?;
+    bytes.extend_from_slice(b"\x01\xe0")?;
+    for content in contents {
+        bytes.extend_from_slice(b"MTrk\x00\x00")?;
+        bytes.push((content.len() / 256 % 256) as u8)?;
+        bytes.push((content.len() % 256) as u8)?;
+        bytes.extend_from_slice(content)?;
+    }
+    Ok(bytes)
+}
+
+/// The dump of twelve equal steps, as an event of a track at tick 0.
+fn dump_event(alloc: Global) -> Result<Vec<u8>, Fail> {
+    let mut bytes = Vec::new(alloc);
+    bytes.extend_from_slice(b"\x00\xf0\x83\x17\x7e\x7f\x08\x01\x00mtune           ")?;
+    for key in 0..128u8 {
+        bytes.extend_from_slice(&[key, 0, 0])?;
+    }
+    bytes.extend_from_slice(b"\x4f\xf7")?;
+    Ok(bytes)
+}
+
+/// The first message of a track and its running status: the program on the first channel.
+const SELECT: [u8; 16] = [
+    0x00, 0xb0, 0x65, 0x00, 0x00, 0x64, 0x03, 0x00, 0x06, 0x00, 0x00, 0x65, 0x7f, 0x00, 0x64, 0x7f,
+];
+
+fn joined(alloc: Global, parts: &[&[u8]]) -> Result<Vec<u8>, Fail> {
+    let mut bytes = Vec::new(alloc);
+    for part in parts {
+        bytes.extend_from_slice(part)?;
+    }
+    Ok(bytes)
+}
+
+/// Checks an outcome, what was said, and what is held at the output's name.
+fn check(rt: &impl Abort, files: &MemFiles, outcome: Outcome, fault: Option<Fault>, status: u8, said: &str, held: Option<&[u8]>) {
+    assert_eq!(rt; outcome.status, status);
+    assert!(rt; outcome.fault == fault);
+    assert!(rt; files.text() == said.as_bytes());
+    assert!(rt; files.content("out.mid") == held);
+}
+
+#[test]
+fn one_note_is_dumped(rt: HostRuntime) -> Result<(), Fail> {
+    let alloc = rt.alloc();
+    let mut files = files(alloc, E12, &ONE_NOTE)?;
+    let outcome = run(alloc, WORDS.as_slice(), &mut files);
+    let track = joined(alloc, &[dump_event(alloc)?.as_slice(), &SELECT, &ONE_NOTE[22..]])?;
+    let output = file(alloc, 0, 1, &[track.as_slice()])?;
+    assert_eq!(rt; output.len(), 462);
+    check(&rt, &files, outcome, None, 0, "route dump\nnotes 1\nchannels 1\n", Some(output.as_slice()));
+    Ok(())
+}
+
+#[test]
+fn no_words_are_refused(rt: HostRuntime) -> Result<(), Fail> {
+    let alloc = rt.alloc();
+    let mut files = files(alloc, E12, &ONE_NOTE)?;
+    let outcome = run(alloc, &[], &mut files);
+    check(&rt, &files, outcome, Some(Fault::Usage { kind: 1 }), 1, "mtune: usage 1\n", None);
+    assert_eq!(rt; files.count(0), 0);
+    Ok(())
+}

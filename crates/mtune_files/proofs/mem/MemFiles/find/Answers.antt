@@ -1,0 +1,11 @@
+use Rattle.std.proofs.Common.{ap, sym, ◌∙◌, map as map_list}
+use Rattle.std.specs.Ordering.{nat_cmp}
+use Rattle.std.specs.Cmp.Lexicographic.{slice_cmp, nat_list_cmp_total}
+use Rattle.std.specs.FinMap.{find, get-from_entries}
+use Rattle.mtune_files.specs.Entries.{pair_of}
+use Rattle.mtune_files.proofs.mem.MemFiles.find.Goals as goal
+
+pub loop-entry-init : goal.loop-entry-init
+loop-entry-init c =
+    get-from_entries nat_list_cmp_total _ _
+    ∙ ap (λ es. find (slice_cmp nat_cmp) c.args.name.now (map_list pair_of es)) (sym c.into_iter-entry-iterator.ensures.into_iter_gives.0)

@@ -1,0 +1,10 @@
+//! What the program asks of the outside: the trait `Files`, and files in memory.
+#![tactic(auto)]
+
+mod files;
+mod mem;
+mod which;
+
+pub use files::{Files, LoadFault, SayFailed, StoreFailed};
+pub use mem::MemFiles;
+pub use which::Which;

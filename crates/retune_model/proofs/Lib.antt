@@ -1,0 +1,13 @@
+pub mod Silent
+pub mod Same
+pub mod SameMusic
+pub mod Tunings
+pub mod Tuned
+pub mod Told
+pub mod Lists
+pub mod Fewest
+pub mod Places
+pub mod Placed
+pub mod SamePairs
+pub mod Beside
+pub mod DumpPlayable

@@ -1,0 +1,17 @@
+use Rattle.retune_model.specs.Pairs.{is_same_pair}
+use Rattle.retune_model.proofs.Places.{lowest_takes_free, all_used}
+use Rattle.retune_model.proofs.Placed.{notes_valid, notes_use}
+use Rattle.retune_model.proofs.SamePairs.{same_pairs}
+use Rattle.retune_model.proofs.channels.run_laws.Goals as goal
+
+pub returns-clause-lowest_is_free : goal.returns-clause-lowest_is_free
+returns-clause-lowest_is_free c = lowest_takes_free is_same_pair same_pairs
+
+pub returns-clause-valid : goal.returns-clause-valid
+returns-clause-valid c = notes_valid is_same_pair
+
+pub returns-clause-as_many : goal.returns-clause-as_many
+returns-clause-as_many c = notes_use is_same_pair same_pairs
+
+pub returns-clause-all_used : goal.returns-clause-all_used
+returns-clause-all_used c = all_used is_same_pair same_pairs

@@ -1,0 +1,60 @@
+-- The output of the dump and live routes for a source, its table and the options (this project's own).
+use Rattle.std.specs.Prelude.{◌≡◌, ℕ, zero, suc, ◌+◌, List, [], ◌∷◌, Bool, true, false, ◌&&◌, ◌||◌, filter, nat_eq, Option, Some, None}
+use Rattle.mt_base.specs.Midi.{MidiEvent}
+use Rattle.midi_model.specs.Sysex.{tuning_of, is_reset}
+use Rattle.retune_model.specs.Table.{Bounds, tuning_target}
+use Rattle.retune_model.specs.Options.{Options}
+use Rattle.retune_model.specs.PlaysTheSame.{begins_note, is_tuning}
+use Rattle.retune_model.specs.Faults.{Targets, is_part}
+use Rattle.retune_model.specs.Routes.{Setup, Live, dump_output, live_output}
+
+-- whether a retuned part has a note on
+abbrev pub has_note_on : (ℕ → Bool) → List MidiEvent → Bool
+has_note_on part [] = false
+has_note_on part (e ∷ es) = begins_note part e.what || has_note_on part es
+
+abbrev pub from_up : ℕ → ℕ → List ℕ
+from_up c zero = []
+from_up c (suc n) = c ∷ from_up (c + 1) n
+
+-- the retuned parts that have a note on, by channel
+abbrev pub sounding_parts : Options → List MidiEvent → List ℕ
+sounding_parts o es = filter (λ c. is_part o c && has_note_on (λ d. nat_eq d c) es) (from_up 0 16)
+
+-- what the tuning program is told of each key: its target, or nothing where it has none
+abbrev pub tuning_if : Option Bounds → Option ℕ
+tuning_if (Some b) = tuning_target b
+tuning_if None = None
+
+abbrev pub tuning_at : Targets → ℕ → Option ℕ
+tuning_at table key = tuning_if (table key 0)
+
+-- each of n keys from k on, with what it is told
+abbrev pub each_key : (ℕ → Option ℕ) → ℕ → ℕ → List (ℕ × Option ℕ)
+each_key f k zero = []
+each_key f k (suc n) = (k, f k) ∷ each_key f (k + 1) n
+
+-- The bytes of a dump: they read as the targets of all 128 keys, and are a tuning message and no reset.
+pub record IsDumpOf (program : ℕ) (f : ℕ → Option ℕ) (bytes : List ℕ) : Type 0 where
+  pub reads : tuning_of bytes ≡ Some (record { program = program; keys = each_key f 0 128 })
+  pub tuning : is_tuning bytes ≡ true
+  pub no_reset : is_reset bytes ≡ false
+
+-- one dump, where a retuned part has a note on; then the selection on each such part
+abbrev pub dump_if : Bool → List ℕ → List (List ℕ)
+dump_if true bytes = bytes ∷ []
+dump_if false bytes = []
+
+abbrev pub dump_setup : Options → List ℕ → List MidiEvent → Setup
+dump_setup o bytes es = record { dumps = dump_if (has_note_on (is_part o) es) bytes; channels = sounding_parts o es; program = o.program }
+
+-- The output of the dump route; bytes is the dump of the table's targets.
+abbrev pub dumped : Options → List ℕ → List MidiEvent → List MidiEvent
+dumped o bytes es = dump_output (dump_setup o bytes es) es
+
+-- The output of the live route; change k is the change of key k to its target.
+abbrev pub live_setup : Options → (ℕ → List ℕ) → List MidiEvent → Live
+live_setup o change es = record { setup = record { dumps = []; channels = sounding_parts o es; program = o.program }; is_retuned = is_part o; change = change }
+
+abbrev pub told_live : Options → (ℕ → List ℕ) → List MidiEvent → List MidiEvent
+told_live o change es = live_output (live_setup o change es) es

@@ -1,0 +1,122 @@
+-- The output of the MPE route (MPE 1.0, in this project's profile): each of at most two parts has a zone. The part's messages go
+-- to the master, each note to the member of its pair, which has the pair's bend.
+use Rattle.std.specs.Prelude.{ℕ, zero, suc, ◌+◌, ◌-◌, ℤ, pos, ◌+ℤ◌, List, [], ◌∷◌, ◌++◌, Bool, true, false, ◌&&◌, ◌||◌, not, nat_eq, if◌then◌else◌, Option, Some, None, map}
+use Rattle.std.specs.Set.{is_member}
+use Rattle.mt_base.specs.declared.pair.Pair.{Pair}
+use Rattle.mt_base.specs.declared.event.Msg.{Msg}
+use Rattle.mt_base.specs.declared.event.Msg.TheVariants.{NoteOn, NoteOff, KeyPressure, Control, Program, Pressure, Bend}
+use Rattle.mt_base.specs.Midi.{MidiWhat, Says, SysexOf, MetaOf, MidiEvent, channel_of}
+use Rattle.midi_model.specs.Sysex.{Doing, Plays, Resets, doing}
+use Rattle.midi_model.specs.Notes.{Note}
+use Rattle.midi_model.specs.Music.{Music, quiet, play, step, channel_at}
+use Rattle.midi_model.specs.Bring.{where_differs}
+use Rattle.retune_model.specs.Table.{BendTarget}
+use Rattle.retune_model.specs.Options.{Options}
+use Rattle.retune_model.specs.PlaysTheSame.{bend_target_if}
+use Rattle.retune_model.specs.Faults.{Targets, is_part, target_of}
+use Rattle.retune_model.specs.Routes.{dump_next}
+use Rattle.retune_model.specs.Pairs.{is_same_pair, sounding, pairs_of}
+use Rattle.retune_model.specs.Choice.{bend_value}
+use Rattle.retune_model.specs.BendOutput.{pair_of, pressed_note, note_released, placed_at}
+
+-- a zone: its part, whether it is the upper one, and how many members it has
+pub record Zone : Type 0 where
+  pub part : ℕ
+  pub upper : Bool
+  pub members : ℕ
+
+abbrev pub master_of : Zone → ℕ
+master_of z = if z.upper then 15 else 0
+
+-- the members from the master outward, counted from 0
+abbrev pub member_at : Zone → ℕ → ℕ
+member_at z i = if z.upper then 14 - i else 1 + i
+
+abbrev pub members_from : Zone → ℕ → ℕ → List ℕ
+members_from z i zero = []
+members_from z i (suc n) = member_at z i ∷ members_from z (i + 1) n
+
+-- a registered parameter's high byte is set, and nothing left selected
+abbrev pub registered : ℕ → ℕ → ℕ → List Msg
+registered c low v = Control c 101 0 ∷ Control c 100 low ∷ Control c 6 v ∷ Control c 101 127 ∷ Control c 100 127 ∷ []
+
+abbrev pub range_each : ℕ → List ℕ → List Msg
+range_each range [] = []
+range_each range (c ∷ cs) = registered c 0 range ++ range_each range cs
+
+-- what sets a zone: its size on the master, then each member's bend sensitivity, where it isn't the 48 that the zone gives
+abbrev pub zone_setup : ℕ → Zone → List Msg
+zone_setup range z = registered (master_of z) 6 z.members ++ (if nat_eq range 48 then [] else range_each range (members_from z 0 z.members))
+
+abbrev pub zones_setup : ℕ → List Zone → List Msg
+zones_setup range [] = []
+zones_setup range (z ∷ zs) = zone_setup range z ++ zones_setup range zs
+
+abbrev pub zone_of : ℕ → List Zone → Option Zone
+zone_of part [] = None
+zone_of part (z ∷ zs) = if nat_eq z.part part then Some z else zone_of part zs
+
+-- ---- what a message of a part causes
+
+-- a new note on its pair's member; where its run begins here, the member's bend comes first where it differs
+abbrev pub member_begins : Options → Targets → (before out : Music) → (Pair → ℕ) → (part velocity : ℕ) → Option BendTarget → List Msg
+member_begins o table before out place part velocity (Some t) =
+    let p = pair_of part t in
+    let bend = bend_value (pos 8192 +ℤ t.steps) in
+    (if is_member is_same_pair (pairs_of o table (sounding o before)) p then [] else where_differs (channel_at out (place p)).bend bend (Bend (place p) bend))
+    ++ NoteOn (place p) t.key velocity ∷ []
+member_begins o table before out place part velocity None = []
+
+-- the same message on another channel
+abbrev pub on_channel : ℕ → Msg → Msg
+on_channel d (NoteOn c k v) = NoteOn d k v
+on_channel d (NoteOff c k v) = NoteOff d k v
+on_channel d (KeyPressure c k v) = KeyPressure d k v
+on_channel d (Control c n v) = Control d n v
+on_channel d (Program c p) = Program d p
+on_channel d (Pressure c v) = Pressure d v
+on_channel d (Bend c v) = Bend d v
+
+abbrev pub zone_causes : Options → Targets → (before out : Music) → (was is : Pair → ℕ) → ℕ → ℕ → Msg → List Msg
+zone_causes o table before out was is master t (NoteOn c k (suc v)) = member_begins o table before out is c (suc v) (bend_target_if o.range (table k t))
+zone_causes o table before out was is master t (NoteOn c k zero) = note_released o table was (λ d j. NoteOn d j 0) c (pressed_note c k before.notes)
+zone_causes o table before out was is master t (NoteOff c k v) = note_released o table was (λ d j. NoteOff d j v) c (pressed_note c k before.notes)
+zone_causes o table before out was is master t m = on_channel master m ∷ []
+
+-- a part without a note on has no zone, and causes nothing
+abbrev pub in_zone : Options → Targets → (before out : Music) → (was is : Pair → ℕ) → ℕ → Msg → Option Zone → List Msg
+in_zone o table before out was is t m (Some z) = zone_causes o table before out was is (master_of z) t m
+in_zone o table before out was is t m None = []
+
+-- ---- the output
+
+abbrev pub mpe_causes : Options → Targets → List Zone → (before out : Music) → (was is : Pair → ℕ) → ℕ → MidiWhat → List MidiWhat
+mpe_causes o table zones before out was is t (Says m) = if is_part o (channel_of m) then map Says (in_zone o table before out was is t m (zone_of (channel_of m) zones)) else Says m ∷ []
+mpe_causes o table zones before out was is t (SysexOf lead bytes) = SysexOf lead bytes ∷ []
+mpe_causes o table zones before out was is t (MetaOf kind bytes) = MetaOf kind bytes ∷ []
+
+-- the setup stands right before the first channel message, and from then on right behind each reset
+abbrev pub setup_before : List MidiWhat → Bool → Doing → List MidiWhat
+setup_before setup false (Plays msg) = setup
+setup_before setup _ _ = []
+
+abbrev pub setup_behind : List MidiWhat → Bool → Doing → List MidiWhat
+setup_behind setup true Resets = setup
+setup_behind setup _ _ = []
+
+-- with the output's music after the setup, where it stands here
+abbrev pub mpe_block : Options → Targets → List Zone → Bool → (before out : Music) → (was is : Pair → ℕ) → MidiEvent → List MidiEvent
+mpe_block o table zones begun before out was is e =
+    let setup = map Says (zones_setup o.range zones) in
+    let first = placed_at e (setup_before setup begun (doing e.what)) in
+    first ++ placed_at e (mpe_causes o table zones before (play out first) was is e.tick e.what ++ setup_behind setup begun (doing e.what))
+
+abbrev pub mpe_output_from : Options → Targets → List Zone → (ℕ → Pair → ℕ) → ℕ → Bool → (before out : Music) → List MidiEvent → List MidiEvent
+mpe_output_from o table zones channel k begun before out [] = []
+mpe_output_from o table zones channel k begun before out (e ∷ es) =
+    let block = mpe_block o table zones begun before out (channel k) (channel (suc k)) e in
+    block ++ mpe_output_from o table zones channel (suc k) (dump_next begun (doing e.what)) (step before e) (play out block) es
+
+-- The output of the MPE route for a source of one port, with the zones of its parts.
+abbrev pub mpe_output : Options → Targets → List Zone → (ℕ → Pair → ℕ) → List MidiEvent → List MidiEvent
+mpe_output o table zones channel es = mpe_output_from o table zones channel 0 false quiet quiet es

@@ -1,0 +1,14 @@
+//! What it means that one file plays another in a scale: definitions alone, with their laws.
+#![tactic(auto)]
+
+mod channels;
+mod dump;
+mod examples;
+mod routes;
+
+pub use channels::{need_laws, run_laws};
+pub use dump::dump_is_playable;
+pub use examples::{
+    bend_examples, fault_examples, output_examples, pair_examples, scale_examples, target_examples,
+};
+pub use routes::{blocks_play_the_source, dump_plays_the_source, live_plays_the_source};

@@ -1,0 +1,4 @@
+pub mod Characters
+pub mod Lines
+pub mod Numbers
+pub mod Remaining

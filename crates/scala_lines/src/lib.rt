@@ -1,0 +1,11 @@
+//! What the texts of the Scala file formats share: lines, comments, blanks, digits and numbers.
+#![tactic(auto)]
+
+mod characters;
+mod lines;
+mod numbers;
+mod pieces;
+
+pub use characters::{after_blanks, split_digits};
+pub use lines::{Line, Lines};
+pub use numbers::{billionths, value_within};

@@ -1,0 +1,7 @@
+pub mod Results
+pub mod Written
+pub mod Entries
+pub mod Values
+pub mod Counts
+pub mod Scales
+pub mod Answered

@@ -1,0 +1,25 @@
+ghost use Rattle.std.specs.Prelude.{◌≡◌, ◌⊎◌, ◌∷◌, ◌++◌, [], ℕ, List, Ok};
+ghost use Rattle.scala_lines.specs.Lines.{lines_of};
+ghost use Rattle.scl_text.specs.declared.entry.Entry.{Entry};
+ghost use Rattle.scl_text.specs.declared.fault.SclKind.{SclKind};
+ghost use Rattle.scl_text.specs.Reading.{scale_of, fault};
+ghost use Rattle.scl_text.specs.Spelling.{ScaleText, ScaleFault};
+ghost use Rattle.scl_text.specs.Worked.{four_entries, four_values, bare_negative, three_pitches, crlf};
+
+/// Each text has one scale or one first fault, and never both.
+pub fn one_answer()
+    ensures either { (lines : List (List ℕ)) → ((entries : List Entry) × ScaleText lines entries) ⊎ ((line : ℕ) × ((kind : SclKind) × ScaleFault lines line kind)) }
+    ensures never_both { (lines : List (List ℕ)) (entries : List Entry) (line : ℕ) (kind : SclKind) → ScaleText lines entries → ScaleFault lines line kind → ⊥ }
+    ensures one_scale { (lines : List (List ℕ)) (es fs : List Entry) → ScaleText lines es → ScaleText lines fs → es ≡ fs }
+    ensures one_fault { (lines : List (List ℕ)) (a b : ℕ) (j k : SclKind) → ScaleFault lines a j → ScaleFault lines b k → (a ≡ b) × (j ≡ k) }
+{}
+
+/// Texts that the definitions were tried on: four entries with a comment, text behind values and a last line without
+/// LF; the same with CR LF; a last line that is a negative number alone; no last line; no text.
+pub fn worked_texts()
+    ensures four { scale_of (lines_of four_entries) ≡ Ok four_values }
+    ensures four_with_cr { scale_of (lines_of (crlf four_entries)) ≡ Ok four_values }
+    ensures negative_number { scale_of (lines_of bare_negative) ≡ fault 7 SclKind.NegativeRatio }
+    ensures pitch_missing { scale_of (lines_of three_pitches) ≡ fault 7 SclKind.MissingPitch }
+    ensures empty { scale_of (lines_of []) ≡ fault 1 SclKind.NoDescription }
+{}

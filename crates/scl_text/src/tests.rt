@@ -1,0 +1,130 @@
+use super::*;
+use std::test::Fail;
+
+/// What a text is read as.
+enum Wanted<'a> {
+    Entries(&'a [Entry]),
+    At(u32, u8),
+}
+
+fn cents(nanocents: i64) -> Entry {
+    Entry::Cents { nanocents }
+}
+
+fn ratio(num: u64, den: u64) -> Entry {
+    Entry::Ratio { num, den }
+}
+
+fn agrees(answer: &Result<Scale, SclFault>, wanted: &Wanted<'_>) -> bool {
+    match (answer, wanted) {
+        (Ok(scale), Wanted::Entries(entries)) => scale.entries.as_slice() == *entries,
+        (Err(SclFault::At { line, kind }), Wanted::At(at, number)) => {
+            *line == *at && kind.number() == *number
+        }
+        _ => false,
+    }
+}
+
+#[test]
+fn reads_each_text(rt: HostRuntime) -> Result<(), Fail> {
+    let greatest = 9_223_372_036_854_775_807;
+    let four = [
+        cents(100_000_000_000),
+        ratio(5, 4),
+        cents(408_000_000_000),
+        cents(-5_000_000_000),
+    ];
+    let table: [(&[u8], Wanted<'_>); 40] = [
+        // four entries, with a comment, text behind values, and no LF at the end
+        (
+            b"! x\ntest\n 4\n100.0 cents\n5/4   E\\\n408.\n-5.0",
+            Wanted::Entries(&four),
+        ),
+        (
+            b"! x\r\ntest\r\n 4\r\n100.0 cents\r\n5/4   E\\\r\n408.\r\n-5.0\r\n",
+            Wanted::Entries(&four),
+        ),
+        (
+            b"! x\ntest\n 4\n100.0 cents\n5/4   E\\\n408.\n-5",
+            Wanted::At(7, 6),
+        ),
+        (
+            b"! x\ntest\n 4\n100.0 cents\n5/4   E\\\n408.\n",
+            Wanted::At(7, 9),
+        ),
+        // each kind
+        (b"", Wanted::At(1, 1)),
+        (b"! a text that ends within a comment", Wanted::At(2, 1)),
+        (b"test\n! one\n", Wanted::At(3, 2)),
+        (b"test\n x 1\n", Wanted::At(2, 3)),
+        (b"test\n0", Wanted::At(2, 4)),
+        (b"test\n4097", Wanted::At(2, 4)),
+        (b"test\n99999999999999999999999999", Wanted::At(2, 4)),
+        (b"test\n1\n1/", Wanted::At(3, 5)),
+        (b"test\n1\n", Wanted::At(3, 9)),
+        (b"test\n1\n-1/2", Wanted::At(3, 6)),
+        (b"test\n1\n0/5", Wanted::At(3, 7)),
+        (b"test\n1\n1000001.0", Wanted::At(3, 8)),
+        (b"test\n1\n! end", Wanted::At(4, 9)),
+        // bad pitches
+        (b"test\n1\n.", Wanted::At(3, 5)),
+        (b"test\n1\n-", Wanted::At(3, 5)),
+        (b"test\n1\n/4", Wanted::At(3, 5)),
+        (b"test\n1\n-5/x", Wanted::At(3, 5)),
+        (b"test\n1\n\n5/4", Wanted::At(3, 5)),
+        // several kinds on one line
+        (b"test\n1\n0/9223372036854775808", Wanted::At(3, 8)),
+        (b"test\n1\n-0/9223372036854775808", Wanted::At(3, 6)),
+        // any bytes in the description, which may be empty; blanks; further lines
+        (b"\xff\xfe\n1\n2/1\n", Wanted::Entries(&[ratio(2, 1)])),
+        (
+            b"\n\t 1 note\n \t2/1\nmore\n",
+            Wanted::Entries(&[ratio(2, 1)]),
+        ),
+        (b"test\n1\n2\n", Wanted::Entries(&[ratio(2, 1)])),
+        (b"test\n01\n0002/01\n", Wanted::Entries(&[ratio(2, 1)])),
+        (b"test\n! x\n1\n!\n1\n", Wanted::Entries(&[ratio(1, 1)])),
+        (b"test\n1\n! no comment \n !\n", Wanted::At(4, 5)),
+        // the least and the greatest of each range, and one beyond
+        (
+            b"test\n1\n9223372036854775807/9223372036854775807",
+            Wanted::Entries(&[ratio(greatest, greatest)]),
+        ),
+        (b"test\n1\n9223372036854775808", Wanted::At(3, 8)),
+        (b"test\n1\n1/9223372036854775808", Wanted::At(3, 8)),
+        (b"test\n1\n0", Wanted::At(3, 7)),
+        (
+            b"test\n1\n1000000.9999999999",
+            Wanted::Entries(&[cents(1_000_000_999_999_999)]),
+        ),
+        (
+            b"test\n1\n-1000000.999999999",
+            Wanted::Entries(&[cents(-1_000_000_999_999_999)]),
+        ),
+        (b"test\n1\n-1000001.", Wanted::At(3, 8)),
+        // decimals: the first nine count
+        (b"test\n1\n.0000000019", Wanted::Entries(&[cents(1)])),
+        (
+            b"test\n1\n701.955",
+            Wanted::Entries(&[cents(701_955_000_000)]),
+        ),
+        (b"test\n1\n-.5.5", Wanted::Entries(&[cents(-500_000_000)])),
+    ];
+    for (text, wanted) in table.iter() {
+        assert!(rt; agrees(&read_scl(rt.alloc(), text), wanted));
+    }
+    Ok(())
+}
+
+#[test]
+fn reads_as_many_entries_as_the_count(rt: HostRuntime) -> Result<(), Fail> {
+    let mut text = Vec::from_slice(rt.alloc(), b"test\n4096\n")?;
+    for _ in 0..4096 {
+        text.extend_from_slice(b"3/2\n")?;
+    }
+    match read_scl(rt.alloc(), text.as_slice()) {
+        Ok(scale) => assert_eq!(rt; scale.entries.len(), 4096),
+        Err(_) => assert!(rt; false),
+    }
+    Ok(())
+}

@@ -1,0 +1,163 @@
+//! Tables of bytes over stated defaults, which are compared and copied by the entries that differ
+//! from these.
+#![tactic(auto)]
+
+ghost use Rattle.std.specs.Prelude.{◌≡◌, ◌<◌, ◌≤◌, ◌≢◌, ◌+◌, length, slice_index, slice_set, IfSome, IfNone, ℕ};
+ghost use Rattle.tab.specs.Entries.{away};
+
+use std::marker::Model;
+
+#[cfg(test)]
+mod tests;
+
+/// A table of `N` bytes over its defaults, at most 128. Places count from 0. Contracts see the list of
+/// the defaults and the list of the entries. A table isn't `Copy`; `copy` gives an equal one.
+#[derive(Drop)]
+pub struct Tab<const N: usize> {
+    base: [u8; N],
+    items: [u8; N],
+    /// Bit i is set exactly where entry i isn't its default.
+    mask: u128,
+}
+
+/// What a comparison found: the place of the first difference, and how many entries were looked at.
+#[derive(Clone, Copy, Debug)]
+pub struct Found {
+    pub place: Option<usize>,
+    pub looked: usize,
+}
+
+impl<const N: usize> Model for Tab<N> {
+    ghost use Rattle.std.specs.Prelude.{◌≡◌, ◌<◌, ◌≤◌, slice_index, ℕ};
+    ghost use Rattle.std.specs.Int.{bit_at};
+    ghost use Rattle.tab.specs.Entries.{Entries, differs};
+
+    ghost Value = { Entries };
+
+    ghost view = { λ t. record { defaults = t.base; items = t.items } };
+
+    ghost invariant = { λ t. (N ≤ 128) × ((i : ℕ) → i < N → bit_at t.mask i ≡ differs (slice_index t.base i) (slice_index t.items i)) };
+}
+
+impl<const N: usize> Tab<N> {
+    /// A table whose entries are all their defaults. `N` is at most 128.
+    pub fn new(base: [u8; N]) -> Tab<N>
+        requires { N ≤ 128 }
+        ensures defaults { result.defaults ≡ base.entry }
+        ensures items { result.items ≡ base.entry }
+    {
+        Tab {
+            base,
+            items: base,
+            mask: 0,
+        }
+    }
+
+    /// How many entries there are: `N`.
+    pub fn len(&self) -> usize
+        ensures value { result ≡ N }
+        ensures few { result ≤ 128 }
+        ensures defaults { length self.now.defaults ≡ N }
+        ensures items { length self.now.items ≡ N }
+    {
+        let _items = &self.items;
+        N
+    }
+
+    /// The entry at a place below `N`.
+    pub fn get(&self, place: usize) -> u8
+        requires { place < N }
+        ensures { result ≡ slice_index self.now.items place }
+    {
+        self.items[place]
+    }
+
+    /// Changes the entry at a place below `N`, and no other.
+    pub fn set(&mut self, place: usize, value: u8)
+        requires { place < N }
+        ensures items { self.new.items ≡ slice_set self.old.items place value }
+        ensures defaults { self.new.defaults ≡ self.old.defaults }
+    {
+        self.items[place] = value;
+        let bit = 1u128 << place as u32;
+        if value == self.base[place] {
+            self.mask &= !bit;
+        } else {
+            self.mask |= bit;
+        }
+    }
+
+    /// The least place at or after `from`, which is at most `N`, where two tables over the same
+    /// defaults differ; none where there is none. It looks only at entries that aren't the default
+    /// in one of the two.
+    pub fn next_difference(&self, other: &Tab<N>, from: usize) -> Option<usize>
+        requires bases { self.now.defaults ≡ other.now.defaults }
+        requires from { from ≤ N }
+        ensures place { IfSome result (λ i. (from ≤ i) × (i < N)) }
+        ensures differs { IfSome result (λ i. slice_index self.now.items i ≢ slice_index other.now.items i) }
+        ensures least { IfSome result (λ i. (k : ℕ) → from ≤ k → k < i → slice_index self.now.items k ≡ slice_index other.now.items k) }
+        ensures none { IfNone result ((k : ℕ) → from ≤ k → k < N → slice_index self.now.items k ≡ slice_index other.now.items k) }
+    {
+        self.find_difference(other, from).place
+    }
+
+    /// The same, and how many entries were looked at: those from `from` to the place found, or to the
+    /// end, at which one of the two isn't at its default.
+    pub fn find_difference(&self, other: &Tab<N>, from: usize) -> Found
+        requires bases { self.now.defaults ≡ other.now.defaults }
+        requires from { from ≤ N }
+        ensures place { IfSome result.place (λ i. (from ≤ i) × (i < N)) }
+        ensures differs { IfSome result.place (λ i. slice_index self.now.items i ≢ slice_index other.now.items i) }
+        ensures least { IfSome result.place (λ i. (k : ℕ) → from ≤ k → k < i → slice_index self.now.items k ≡ slice_index other.now.items k) }
+        ensures none { IfNone result.place ((k : ℕ) → from ≤ k → k < N → slice_index self.now.items k ≡ slice_index other.now.items k) }
+        ensures looked { IfSome result.place (λ i. away self.now.items other.now from + result.looked ≡ away self.now.items other.now (i + 1)) }
+        ensures looked_all { IfNone result.place (away self.now.items other.now from + result.looked ≡ away self.now.items other.now N) }
+    {
+        let both = self.mask | other.mask;
+        let mut looked = 0;
+        let mut i = from;
+        while i < N {
+            let skip = (both >> i as u32).trailing_zeros() as usize;
+            if skip >= N - i {
+                return Found {
+                    place: None,
+                    looked,
+                };
+            }
+            i += skip;
+            looked += 1;
+            if self.items[i] != other.items[i] {
+                return Found {
+                    place: Some(i),
+                    looked,
+                };
+            }
+            i += 1;
+        }
+        Found {
+            place: None,
+            looked,
+        }
+    }
+
+    /// Takes over the entries of another table over the same defaults.
+    pub fn apply(&mut self, other: &Tab<N>)
+        requires { self.old.defaults ≡ other.now.defaults }
+        ensures items { self.new.items ≡ other.now.items }
+        ensures defaults { self.new.defaults ≡ self.old.defaults }
+    {
+        self.items = other.items;
+        self.mask = other.mask;
+    }
+
+    /// A table with the same defaults and entries.
+    pub fn copy(&self) -> Tab<N>
+        ensures { result ≡ self.now }
+    {
+        Tab {
+            base: self.base,
+            items: self.items,
+            mask: self.mask,
+        }
+    }
+}
