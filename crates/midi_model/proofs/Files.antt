@@ -12,7 +12,7 @@ use Rattle.midi_model.proofs.Laws.{bind_ok, guarded, done, ok_is}
 use Rattle.midi_model.proofs.Chunks.{number_again, number_takes, cut, tracks_take, tracks_again}
 
 -- the number at the front of what goes on
-number_front : (w : Width) (c d : List ℕ) → byte_len w ≤ length c → number w (c ++ d) ≡ number w c
+pub number_front : (w : Width) (c d : List ℕ) → byte_len w ≤ length c → number w (c ++ d) ≡ number w c
 number_front w c d long = ap (from_be_bytes w) (take-append-le (byte_len w) c d long)
 
 front_number : (w : Width) (c d : List ℕ) → byte_len w ≤ length c → IsNumber w (take (byte_len w) c) (number w (c ++ d))

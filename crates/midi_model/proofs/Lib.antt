@@ -11,6 +11,7 @@ pub mod Merging
 pub mod Playing
 pub mod Failing
 pub mod Faulting
+pub mod Cutting
 pub mod Same
 pub mod Steady
 pub mod Timely

@@ -142,3 +142,7 @@ pub record FirstFault (bytes : List ℕ) (offset : ℕ) (kind : SmfKind) : Type 
   pub back : List ℕ
   pub place : offset ≡ length bytes - length back
   pub fault : FileFault bytes back kind
+
+-- What is wrong with the first n bytes of a file that end before its last track chunk does.
+abbrev pub CutFault : ℕ → ℕ → SmfKind → Type 0
+CutFault n offset kind = ((n < 4) × (offset ≡ 0) × (kind ≡ NotMidi)) ⊎ ((4 ≤ n) × (((offset ≡ n) × (kind ≡ Truncated)) ⊎ ((offset ≤ n) × (n < offset + 8) × (kind ≡ MissingTrack))))

@@ -1,6 +1,6 @@
-ghost use Rattle.std.specs.Prelude.{◌≡◌, ◌<◌, ◌^◌, ◌⊎◌, ℕ, List, length, Ok, Err};
+ghost use Rattle.std.specs.Prelude.{◌≡◌, ◌<◌, ◌^◌, ◌⊎◌, ℕ, ◌+◌, List, length, take, Ok, Err};
 ghost use Rattle.midi_model.specs.declared.fault.SmfKind.{SmfKind};
-ghost use Rattle.midi_model.specs.Faults.{FirstFault};
+ghost use Rattle.midi_model.specs.Faults.{FirstFault, CutFault};
 ghost use Rattle.midi_model.specs.FileText.{MidiFile, file_at};
 ghost use Rattle.midi_model.specs.Merged.{merged, AreTracksOf, IsPlayable};
 ghost use Rattle.midi_model.specs.Spelling.{Spells};
@@ -17,6 +17,8 @@ pub fn file_laws()
     // Bytes spell a file, or they have a first fault and spell none.
     ensures either { (bytes : List ℕ) → ((file : MidiFile) × Spells bytes file) ⊎ ((offset : ℕ) × (kind : SmfKind) × FirstFault bytes offset kind) }
     ensures never_both { (bytes : List ℕ) (file : MidiFile) (offset : ℕ) (kind : SmfKind) → Spells bytes file → FirstFault bytes offset kind → ⊥ }
+    // A file that is cut off before its last track chunk ends spells none.
+    ensures cut { (bytes : List ℕ) (file : MidiFile) (is : Spells bytes file) (n : ℕ) → n < length is.header + length is.tracks → (offset : ℕ) × (kind : SmfKind) × FirstFault (take n bytes) offset kind × CutFault n offset kind }
     ensures tracks { (bytes : List ℕ) (file : MidiFile) → length bytes < 2 ^ 28 → Spells bytes file → AreTracksOf 0 file.tracks }
     ensures playable { (bytes : List ℕ) (file : MidiFile) → length bytes < 2 ^ 28 → Spells bytes file → IsPlayable (length file.tracks) (merged file) }
 {}
