@@ -32,7 +32,7 @@ content_again : (len content rest : List ℕ) → IsQuantity len (length content
 unfolding content_at
 content_again len content rest q = rw (quantity_again (length content) len (content ++ rest) q) (bytes_again content rest)
 
-not_short : (s : ℕ) → IsLong s → is_short s ≡ false
+pub not_short : (s : ℕ) → IsLong s → is_short s ≡ false
 not_short s (low, high, inl l) = rw (lt-ltb s 192 l) refl
 not_short s (low, high, inr l) =
     let above : ltb s 192 ≡ false = le-ltb s 192 (omega (arith, l)) in
@@ -111,7 +111,7 @@ event_again running before front rest e after is =
     ∙ made_again running before is.distance is.delta is.body rest e.what after is.is_delta low is.is_body
     ∙ ap (λ (t : ℕ). let x : Timed = record { tick = t; what = e.what } in let r : Result (Timed × ℕ × List ℕ) Stop = Ok (x, after, rest) in r) (sym is.tick)
 
-running_after : (running : ℕ) (front : List ℕ) (what : MidiWhat) (after : ℕ) → IsBody running front what after → IsRunning after
+pub running_after : (running : ℕ) (front : List ℕ) (what : MidiWhat) (after : ℕ) → IsBody running front what after → IsRunning after
 running_after running front (Says m) after h = let r = status_low after h.0 m h.1 in (λ _. r.0, r.1)
 running_after running front (SysexOf lead content) after h = (λ z. absurd (omega (arith, z, h.4)), omega (arith, h.4))
 running_after running front (MetaOf kind content) after h = (λ z. absurd (omega (arith, z, h.4)), omega (arith, h.4))

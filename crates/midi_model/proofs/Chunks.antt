@@ -96,7 +96,7 @@ one_skipped bytes c x t isnt u = (
   t.2 ∙ ap (λ r. t.0 ++ r) u.2 ∙ sym (append_assoc t.0 u.0 x.1),
 )
 
-content_takes : (turns : ℕ) (bytes : List ℕ) (x : List ℕ × List ℕ) → content_from turns bytes ≡ Ok x → TookTrack bytes x
+pub content_takes : (turns : ℕ) (bytes : List ℕ) (x : List ℕ × List ℕ) → content_from turns bytes ≡ Ok x → TookTrack bytes x
 unfolding content_from
 content_takes zero bytes x e = absurd cc
 content_takes (suc turns) bytes x e =
@@ -109,7 +109,7 @@ content_takes (suc turns) bytes x e =
       | inr u ↦ one_skipped bytes c.0 x t (eqb-false c.0.0.name 0x4d54726b u.0) (content_takes turns c.0.1 x u.1)
     ]
 
-skipped_again : (others : List (ℕ × List ℕ)) (skipped rest : List ℕ) → AreSkipped others skipped → next_content (skipped ++ rest) ≡ next_content rest
+pub skipped_again : (others : List (ℕ × List ℕ)) (skipped rest : List ℕ) → AreSkipped others skipped → next_content (skipped ++ rest) ≡ next_content rest
 skipped_again [] skipped rest is = ap (λ s. next_content (s ++ rest)) is
 skipped_again (o ∷ os) skipped rest (front, after, is, isnt, parts, more) =
     ap (λ s. next_content (s ++ rest)) parts ∙ ap next_content (append_assoc front after rest)
@@ -141,7 +141,7 @@ track_at_whole bytes x e =
     let s = is_sound a.0 x (track_in a.0.0).fault a.2 in
     subst (λ (y : List ℕ × List ℕ). (track_in y.0).fault ≡ None) s.1 s.0
 
-track_at_again : (front rest content : List ℕ) → IsTrackChunk front content → (track_in content).fault ≡ None → track_at (front ++ rest) ≡ Ok (content, rest)
+pub track_at_again : (front rest content : List ℕ) → IsTrackChunk front content → (track_in content).fault ≡ None → track_at (front ++ rest) ≡ Ok (content, rest)
 unfolding track_at
 track_at_again front rest content is none = rw (content_again front rest content is, none) refl
 

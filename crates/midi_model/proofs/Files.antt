@@ -1,11 +1,10 @@
 -- Files that are read are spelled so, and what is spelled so is read.
-use Rattle.std.proofs.Common.{◌≡◌, ℕ, ◌≤◌, ◌<◌, List, ◌++◌, length, map, drop, take, false, not, eqb, ltb, ◌⊎◌, Result, Ok, Err, refl, sym, ap, subst, ◌∙◌, append_assoc, arith, inl, inr}
+use Rattle.std.proofs.Common.{◌≡◌, ℕ, ◌≤◌, ◌<◌, List, ◌++◌, length, map, drop, take, false, not, eqb, ltb, Result, Ok, Err, refl, sym, ap, subst, ◌∙◌, append_assoc, arith, inl, inr}
 use Rattle.std.specs.Prelude.{◌&&◌, ◌||◌}
 use Rattle.std.specs.Int.{Width, w16, w32, byte_len, from_be_bytes}
 use Rattle.std.proofs.lemmas.Bool.{ltb-false, le-ltb, eqb-true, eqb-false, eq-eqb, ne_eqb, or_parts, or_from, and_cases, and_left, and_right, not-false, cases_eq}
 use Rattle.std.proofs.lemmas.List.{length-drop, length-take, length-append, length-map, drop_at, take-append-drop, take-append-le, drop-append-le}
 use Rattle.midi_model.specs.declared.fault.Stop.{Stop}
-use Rattle.midi_model.specs.declared.fault.SmfKind.{SmfKind}
 use Rattle.mt_base.specs.Midi.{Timed}
 use Rattle.midi_model.specs.FileText.{Header, MidiFile, made, number, header_at, fields_at, tracks_at, all_at, file_at, from_start, events_of}
 use Rattle.midi_model.specs.Spelling.{IsNumber, IsChunk, IsFields, Spells}
@@ -13,7 +12,7 @@ use Rattle.midi_model.proofs.Laws.{bind_ok, guarded, done, ok_is}
 use Rattle.midi_model.proofs.Chunks.{number_again, number_takes, cut, tracks_take, tracks_again}
 
 -- the number at the front of what goes on
-number_front : (w : Width) (c d : List ℕ) → byte_len w ≤ length c → number w (c ++ d) ≡ number w c
+pub number_front : (w : Width) (c d : List ℕ) → byte_len w ≤ length c → number w (c ++ d) ≡ number w c
 number_front w c d long = ap (from_be_bytes w) (take-append-le (byte_len w) c d long)
 
 front_number : (w : Width) (c d : List ℕ) → byte_len w ≤ length c → IsNumber w (take (byte_len w) c) (number w (c ++ d))
@@ -129,7 +128,7 @@ fields_again c d format tracks division is =
     ]) in
     rw (format-is, tracks-is, division-is, not2, low, some, few, drop_at c d (length c) refl) refl
 
-header_again : (header fields rest : List ℕ) (format tracks division : ℕ) → IsChunk header 0x4d546864 fields → IsFields fields format tracks division
+pub header_again : (header fields rest : List ℕ) (format tracks division : ℕ) → IsChunk header 0x4d546864 fields → IsFields fields format tracks division
     → header_at (header ++ rest) ≡ Ok (record { format = format; tracks = tracks; division = division }, rest)
 unfolding header_at
 header_again header fields rest format tracks division is f =
@@ -203,11 +202,3 @@ file_again bytes file is = ap (from_start (length bytes)) (all_again bytes file 
 -- bytes spell at most one file
 pub one_file : (bytes : List ℕ) (a b : MidiFile) → Spells bytes a → Spells bytes b → a ≡ b
 one_file bytes a b is is2 = let same : done {A = MidiFile} a ≡ done b = sym (all_again bytes a is) ∙ all_again bytes b is2 in ok_is a b same
-
-which : (bytes : List ℕ) (r : Result MidiFile (ℕ × SmfKind)) → file_at bytes ≡ r → ((file : MidiFile) × Spells bytes file) ⊎ ((fault : ℕ × SmfKind) × (file_at bytes ≡ Err fault) × ((file : MidiFile) → Spells bytes file → ⊥))
-which bytes (Ok file) e = inl (file, file_takes bytes file e)
-which bytes (Err fault) e = inr (fault, e, λ file is. let again = file_again bytes file is in cc)
-
--- bytes spell a file, or have a first fault and spell none
-pub file_or_fault : (bytes : List ℕ) → ((file : MidiFile) × Spells bytes file) ⊎ ((fault : ℕ × SmfKind) × (file_at bytes ≡ Err fault) × ((file : MidiFile) → Spells bytes file → ⊥))
-file_or_fault bytes = which bytes (file_at bytes) refl

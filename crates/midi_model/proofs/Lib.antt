@@ -9,6 +9,9 @@ pub mod Takes
 pub mod Tracks
 pub mod Merging
 pub mod Playing
+pub mod Failing
+pub mod Faulting
+pub mod Cutting
 pub mod Same
 pub mod Steady
 pub mod Timely

@@ -3,6 +3,7 @@ pub mod Spelling
 pub mod FileText
 pub mod Merged
 pub mod Kinds
+pub mod Faults
 pub mod Examples
 pub mod Sysex
 pub mod TuningBytes

@@ -1,5 +1,5 @@
 -- What the program's values stand for.
-use Rattle.std.specs.Prelude.{◌≡◌, ℕ, map, Result, Ok, Err}
+use Rattle.std.specs.Prelude.{◌≡◌, ℕ, List, map, Result, Ok, Err}
 use Rattle.midi_model.specs.declared.fault.SmfKind.{SmfKind}
 use Rattle.midi_model.specs.declared.fault.Stop.{Stop}
 use Rattle.smf_read.specs.declared.fault.Halt.{Halt}
@@ -8,6 +8,7 @@ use Rattle.smf_read.specs.declared.fault.SmfFault.{SmfFault}
 use Rattle.smf_read.specs.declared.fault.SmfFault.TheVariants as faults
 use Rattle.smf_read.specs.declared.smf.Smf.{Smf}
 use Rattle.smf_read.specs.Views.{content_of}
+use Rattle.midi_model.specs.Faults.{FirstFault}
 use Rattle.midi_model.specs.FileText.{MidiFile, made}
 
 abbrev pub view_file : Smf → MidiFile
@@ -27,3 +28,8 @@ abbrev pub Reads : Result Smf SmfFault → Result MidiFile (ℕ × SmfKind) → 
 Reads (Ok f) read = read ≡ Ok (view_file f)
 Reads (Err faults.Memory) read = Unit {0}
 Reads (Err (faults.At offset kind)) read = read ≡ Err (offset, kind)
+
+-- Where it isn't want of memory, a fault is the first of these bytes.
+abbrev pub IsFirst : List ℕ → SmfFault → Type 0
+IsFirst bytes faults.Memory = Unit {0}
+IsFirst bytes (faults.At offset kind) = FirstFault bytes offset kind

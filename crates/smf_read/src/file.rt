@@ -1,11 +1,11 @@
-ghost use Rattle.std.specs.Prelude.{◌≡◌, ◌*◌, ◌<◌, ◌≤◌, ◌^◌, length, take, drop, map, IfOk, Ok};
+ghost use Rattle.std.specs.Prelude.{◌≡◌, ◌*◌, ◌<◌, ◌≤◌, ◌^◌, length, take, drop, map, IfOk, IfErr, Ok};
 ghost use Rattle.std.specs.Int.{w16, w32};
 ghost use Rattle.midi_model.specs.Reading.{Gives, Within, track_in};
 ghost use Rattle.midi_model.specs.FileText.{number, header_at, fields_at, chunk_at, next_content, track_at, tracks_at, all_at, file_at};
 ghost use Rattle.midi_model.specs.FileText.{MidiFile, events_of, together};
 ghost use Rattle.midi_model.specs.Spelling.{Spells};
 ghost use Rattle.smf_read.specs.Views.{content_of, view_header, view_chunk};
-ghost use Rattle.smf_read.specs.Files.{view_file, Finds, Reads};
+ghost use Rattle.smf_read.specs.Files.{view_file, Finds, Reads, IsFirst};
 ghost use Rattle.smf_read.specs.Sound.{AreSound};
 
 use crate::chunk::{next_content, read_header};
@@ -85,7 +85,10 @@ pub fn read_smf(alloc: Global, bytes: &[u8]) -> Result<Smf<'_>, SmfFault>
     ensures found { IfOk result (λ f. Spells bytes.entry.now (view_file f)) }
     // What the bytes spell is read, unless memory runs out.
     ensures only { (file : MidiFile) → Spells bytes.entry.now file → Reads result (Ok file) }
-    // Otherwise it is the first fault from the left, with its place.
+    // Otherwise the answer is the bytes' first fault: what is wrong after the longest front that
+    // breaks no rule.
+    ensures fault { IfErr result (λ e. IsFirst bytes.entry.now e) }
+    // The same, by reading from left to right.
     ensures exact { Reads result (file_at bytes.entry.now) }
 {
     exact(alloc, bytes)

@@ -1,5 +1,7 @@
 use Rattle.std.proofs.Common.{◌≡◌}
-use Rattle.midi_model.proofs.Files.{file_takes, file_again, one_file, file_or_fault}
+use Rattle.midi_model.proofs.Files.{file_takes, file_again, one_file}
+use Rattle.midi_model.proofs.Faulting.{fault_takes, fault_again, one_fault, file_or_fault, never_both}
+use Rattle.midi_model.proofs.Cutting.{cut_off}
 use Rattle.midi_model.proofs.Playing.{spelled_tracks, spelled_playable}
 use Rattle.midi_model.proofs.text.file_laws.Goals as goal
 
@@ -12,11 +14,26 @@ returns-clause-found c bytes file e = file_takes bytes file e
 pub returns-clause-only : goal.returns-clause-only
 returns-clause-only c bytes file is = file_again bytes file is
 
+pub returns-clause-first : goal.returns-clause-first
+returns-clause-first c bytes offset kind e = fault_takes bytes offset kind e
+
+pub returns-clause-read_first : goal.returns-clause-read_first
+returns-clause-read_first c bytes offset kind f = fault_again bytes offset kind f
+
+pub returns-clause-one_fault : goal.returns-clause-one_fault
+returns-clause-one_fault c bytes at kind at2 kind2 f g = one_fault bytes at kind at2 kind2 f g
+
 pub returns-clause-either : goal.returns-clause-either
 returns-clause-either c bytes = file_or_fault bytes
+
+pub returns-clause-never_both : goal.returns-clause-never_both
+returns-clause-never_both c bytes file offset kind is f = never_both bytes file offset kind is f
 
 pub returns-clause-tracks : goal.returns-clause-tracks
 returns-clause-tracks c bytes file few is = spelled_tracks bytes file few is
 
 pub returns-clause-playable : goal.returns-clause-playable
 returns-clause-playable c bytes file few is = spelled_playable bytes file few is
+
+pub returns-clause-cut : goal.returns-clause-cut
+returns-clause-cut c bytes file is n lt = cut_off bytes file is n lt
