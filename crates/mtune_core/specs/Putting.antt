@@ -1,7 +1,9 @@
 -- Events that are put into tracks one after the other, and what the dump route puts.
-use Rattle.std.specs.Prelude.{ℕ, suc, List, [], ◌∷◌, ◌++◌, Bool, true, false, ◌||◌, ◌&&◌, not, get_or, set, if◌then◌else◌}
+use Rattle.std.specs.Prelude.{ℕ, ◌+◌, List, [], ◌∷◌, ◌++◌, Bool, true, false, ◌||◌, ◌&&◌, not, ◌==◌, get_or, set, if◌then◌else◌}
 use Rattle.mt_base.specs.declared.event.Msg.{Msg}
-use Rattle.mt_base.specs.Midi.{MidiEvent, Says}
+use Rattle.mt_base.specs.Midi.{MidiWhat, MidiEvent, Says, SysexOf}
+use Rattle.midi_model.specs.Sysex.{is_reset}
+use Rattle.midi_model.specs.TuningBytes.{select_of}
 use Rattle.midi_model.specs.Writing.{Written, written, with_event}
 use Rattle.event_stream.specs.Distributed.{timed, MayPut}
 use Rattle.retune_model.specs.Blocks.{all_events}
@@ -36,7 +38,7 @@ any_of (b ∷ bs) = b || any_of bs
 -- the places, counted on from one, that are marked
 abbrev pub marked : ℕ → List Bool → List ℕ
 marked c [] = []
-marked c (b ∷ bs) = if b then c ∷ marked (suc c) bs else marked (suc c) bs
+marked c (b ∷ bs) = if b then c ∷ marked (c + 1) bs else marked (c + 1) bs
 
 -- what the program's setup stands for
 abbrev pub view_setup : Setup → routes.Setup
@@ -50,15 +52,33 @@ dump_events s e = all_events (sends e.tick e.track s.dumps)
 abbrev pub select_events : ℕ → MidiEvent → List ℕ → List MidiEvent
 select_events program e channels = all_events (selects e.tick e.track program channels)
 
--- the setup before the first channel message, and the event
-abbrev pub before_event : Bool → routes.Setup → MidiEvent → List MidiEvent
-before_event true s e = dump_events s e ++ select_events s.program e s.channels
-before_event false s e = []
+-- the selection on a channel, if it is wanted
+abbrev pub select_if : Bool → ℕ → MidiEvent → ℕ → List MidiEvent
+select_if true program e channel = said_at e (select_of channel program)
+select_if false program e channel = []
 
+-- the setup at an event, if it is wanted
+abbrev pub setup_if : Bool → routes.Setup → MidiEvent → List MidiEvent
+setup_if true s e = dump_events s e ++ select_events s.program e s.channels
+setup_if false s e = []
+
+-- the first channel message, where one came before or not; and whether one came after it
+abbrev pub is_first : Bool → MidiWhat → Bool
+is_first begun what = not begun && is_message what
+
+abbrev pub has_begun : Bool → MidiWhat → Bool
+has_begun begun what = begun || is_message what
+
+-- a reset, once a channel message came
+abbrev pub is_again : Bool → MidiWhat → Bool
+is_again begun (SysexOf lead bytes) = begun && (lead == 0xf0 && is_reset bytes)
+is_again begun _ = false
+
+-- the setup before the first channel message and behind each reset, and the event
 abbrev pub block_events : routes.Setup → Bool → MidiEvent → List MidiEvent
-block_events s begun e = before_event (not begun && is_message e.what) s e ++ e ∷ []
+block_events s begun e = setup_if (is_first begun e.what) s e ++ e ∷ setup_if (is_again begun e.what) s e
 
 -- all that is put, where a channel message came before or not
 unfoldable pub written_from : routes.Setup → Bool → List MidiEvent → List MidiEvent
 written_from s begun [] = []
-written_from s begun (e ∷ es) = block_events s begun e ++ written_from s (begun || is_message e.what) es
+written_from s begun (e ∷ es) = block_events s begun e ++ written_from s (has_begun begun e.what) es

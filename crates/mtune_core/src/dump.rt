@@ -1,12 +1,12 @@
 ghost use Rattle.std.specs.Prelude.{◌≡◌, ◌≤◌, ◌+◌, OnOk, length, false};
-ghost use Rattle.mt_base.specs.Midi.{view};
-ghost use Rattle.mtune_core.specs.Putting.{AllMayPut, put_all, said_at, any_of, marked, view_setup, dump_events, select_events, block_events, written_from};
+ghost use Rattle.mt_base.specs.Midi.{view, view_what};
+ghost use Rattle.mtune_core.specs.Putting.{AllMayPut, put_all, said_at, any_of, marked, view_setup, dump_events, select_if, select_events, setup_if, is_first, is_again, has_begun, block_events, written_from};
 
 use crate::source::is_message;
 use arrayvec::ArrayVec;
 use event_stream::{EventStream, TrackSet};
 use mt_base::{Channel, Event, Memory, Msg, What};
-use mts_msg::select;
+use mts_msg::{is_reset, select};
 
 /// What tells a device its tuning: a dump of the targets of all keys, and the parts that select it.
 #[derive(Drop)]
@@ -67,34 +67,91 @@ fn put_dump(out: &mut TrackSet, at: &Event<'_>, setup: &Setup) -> Result<(), Mem
     Ok(())
 }
 
-/// Puts the selection of the program at an event's tick into its track, for each part, by channel.
+/// Puts the selection of the program on a channel, if it is wanted, at an event's tick into its track.
+fn put_select(
+    out: &mut TrackSet,
+    at: &Event<'_>,
+    program: u8,
+    channel: Channel,
+    wanted: bool,
+) -> Result<(), Memory>
+    requires program { program ≤ 127 }
+    requires may { AllMayPut out.old (select_if wanted program (view at.now) channel) }
+    ensures { OnOk result (out.new ≡ put_all out.old (select_if wanted program (view at.now) channel)) }
+{
+    if wanted {
+        put_messages(out, at, select(channel, program).as_slice())
+    } else {
+        Ok(())
+    }
+}
+
+/// Puts the selections of the program at an event's tick into its track, for each part, by channel.
 /// The first of the parts is that of a channel.
 fn put_selects(
     out: &mut TrackSet,
     at: &Event<'_>,
     program: u8,
-    channel: u8,
+    first: u8,
     parts: &[bool],
 ) -> Result<(), Memory>
     requires program { program ≤ 127 }
-    requires channels { channel + length parts.now ≤ 16 }
-    requires may { AllMayPut out.old (select_events program (view at.now) (marked channel parts.now)) }
-    ensures { OnOk result (out.new ≡ put_all out.old (select_events program (view at.now) (marked channel parts.now))) }
+    requires channels { first + length parts.now ≤ 16 }
+    requires may { AllMayPut out.old (select_events program (view at.now) (marked first parts.now)) }
+    ensures { OnOk result (out.new ≡ put_all out.old (select_events program (view at.now) (marked first parts.now))) }
 {
     match parts {
         [] => Ok(()),
-        [has, rest @ ..] => {
-            if *has {
-                if let Some(part) = Channel::new(channel) {
-                    put_messages(out, at, select(part, program).as_slice())?;
-                }
-            }
-            put_selects(out, at, program, channel + 1, rest)
+        [wanted, rest @ ..] => {
+            let Some(channel) = Channel::new(first) else {
+                unreachable!()
+            };
+            put_select(out, at, program, channel, *wanted)?;
+            put_selects(out, at, program, first + 1, rest)
         }
     }
 }
 
-/// Puts an event, and the setup before it where it is the first channel message.
+/// Puts the setup at an event's tick into its track, if it is wanted.
+fn put_setup(out: &mut TrackSet, at: &Event<'_>, setup: &Setup, wanted: bool) -> Result<(), Memory>
+    requires program { setup.now.program ≤ 127 }
+    requires may { AllMayPut out.old (setup_if wanted (view_setup setup.now) (view at.now)) }
+    ensures { OnOk result (out.new ≡ put_all out.old (setup_if wanted (view_setup setup.now) (view at.now))) }
+{
+    if wanted {
+        put_dump(out, at, setup)?;
+        put_selects(out, at, setup.program, 0, &setup.parts)
+    } else {
+        Ok(())
+    }
+}
+
+/// Whether an event is the first channel message.
+fn is_first(begun: bool, what: &What<'_>) -> bool
+    ensures { result ≡ is_first begun (view_what what.now) }
+{
+    !begun && is_message(what)
+}
+
+/// Whether a channel message came, an event included.
+fn has_begun(begun: bool, what: &What<'_>) -> bool
+    ensures { result ≡ has_begun begun (view_what what.now) }
+{
+    begun || is_message(what)
+}
+
+/// Whether an event is a reset, once a channel message came.
+fn is_again(begun: bool, what: &What<'_>) -> bool
+    ensures { result ≡ is_again begun (view_what what.now) }
+{
+    match what {
+        What::Sysex { lead, bytes } => begun && *lead == 0xf0 && is_reset(bytes),
+        What::Message(_) | What::Meta { .. } => false,
+    }
+}
+
+/// Puts an event, and the setup before it where it is the first channel message, and behind it where
+/// it is a later reset.
 fn put_block(
     out: &mut TrackSet,
     event: &Event<'_>,
@@ -105,14 +162,13 @@ fn put_block(
     requires may { AllMayPut out.old (block_events (view_setup setup.now) begun (view event.now)) }
     ensures { OnOk result (out.new ≡ put_all out.old (block_events (view_setup setup.now) begun (view event.now))) }
 {
-    if !begun && is_message(&event.what) {
-        put_dump(out, event, setup)?;
-        put_selects(out, event, setup.program, 0, &setup.parts)?;
-    }
-    out.put(event)
+    put_setup(out, event, setup, is_first(begun, &event.what))?;
+    out.put(event)?;
+    put_setup(out, event, setup, is_again(begun, &event.what))
 }
 
-/// Puts all events of a stream, and the setup right before the first channel message.
+/// Puts all events of a stream, and the setup right before the first channel message and right behind
+/// each later reset.
 #[tactic(auto, unfolding(crate::specs::Putting::written_from))]
 pub fn translate<'a, S: EventStream<'a>>(
     stream: &mut S,
@@ -127,7 +183,7 @@ pub fn translate<'a, S: EventStream<'a>>(
     let mut begun = false;
     'events: while let Some(event) = stream.next() {
         put_block(out, &event, setup, begun)?;
-        begun = begun || is_message(&event.what);
+        begun = has_begun(begun, &event.what);
     }
     Ok(())
 }
