@@ -4,7 +4,7 @@ ghost use Rattle.std.specs.Prelude.{◌≡◌, ◌++◌, ◌+◌, ◌*◌, ◌-�
 ghost use Rattle.mt_base.specs.declared.event.Msg.TheVariants.{NoteOn, NoteOff, KeyPressure, Control, Program, Pressure, Bend};
 ghost use Rattle.mt_base.specs.Midi.{MetaOf};
 ghost use Rattle.midi_model.specs.Music.{quiet, play, channel_at};
-ghost use Rattle.midi_model.specs.Select.{select};
+ghost use Rattle.midi_model.specs.TuningBytes.{select_of};
 ghost use Rattle.midi_model.specs.Examples.{at, all_at, sysex, general_midi_on, registered, two_channels, dump};
 ghost use Rattle.retune_model.specs.Scale.{scale_pitch, term_count, a440_mapping};
 ghost use Rattle.retune_model.specs.Table.{nearest_tuning, nearest_key, nearest_steps};
@@ -76,9 +76,9 @@ pub fn pair_examples()
 
 /// The outputs of the four routes, by example.
 pub fn output_examples()
-    ensures dump { dumped (with_route ByDump 12) dump one_note ≡ sysex 0 dump ∷ (all_at 0 (select 0 0) ++ one_note) }
+    ensures dump { dumped (with_route ByDump 12) dump one_note ≡ sysex 0 dump ∷ (all_at 0 (select_of 0 0) ++ one_note) }
     ensures dump_of_nothing { dumped (with_route ByDump 12) dump (end_at 0 ∷ []) ≡ end_at 0 ∷ [] }
-    ensures live { told_live (with_route ByLive 12) change one_note ≡ all_at 0 (select 0 0) ++ (sysex 0 (change 69) ∷ one_note) }
+    ensures live { told_live (with_route ByLive 12) change one_note ≡ all_at 0 (select_of 0 0) ++ (sysex 0 (change 69) ∷ one_note) }
     ensures bend { bent equal_table on_first one_note ≡ all_at 0 (ready 0) ++ one_note }
     ensures bend_chord { bent just_table on_three chord ≡ all_at 0 (ready 0 ++ (NoteOn 0 60 64 ∷ ready 1 ++ (Bend 1 8099 ∷ NoteOn 1 64 64 ∷ ready 2 ++ (Bend 2 8205 ∷ NoteOn 2 67 64 ∷ [])))) ++ all_at 480 (NoteOff 0 60 64 ∷ NoteOff 1 64 64 ∷ NoteOff 2 67 64 ∷ []) }
     ensures taken_over { bent equal_table on_first taken_over ≡ all_at 0 (Program 0 5 ∷ Control 0 7 80 ∷ ready 0 ++ NoteOn 0 69 64 ∷ []) ++ (all_at 480 (NoteOff 0 69 64 ∷ Program 0 0 ∷ Control 0 7 100 ∷ NoteOn 0 69 64 ∷ []) ++ at 960 (NoteOff 0 69 64) ∷ []) }
