@@ -14,7 +14,7 @@ ghost use Rattle.retune_model.specs.Faults.{UnmappedKey, Unison, BendTooFar, Mod
 ghost use Rattle.retune_model.specs.Numbered.{numbered, tick_at};
 ghost use Rattle.retune_model.specs.Pairs.{pairs_at};
 ghost use Rattle.retune_model.specs.Dump.{dumped, told_live};
-ghost use Rattle.retune_model.specs.MpeOutput.{mpe_output};
+ghost use Rattle.retune_model.specs.MpeOutput.{mpe_output, zones_for, lower_allowed, members_from};
 ghost use Rattle.retune_model.specs.Examples.{two_steps, comma, comma_mapping, gapped_mapping, equal_table, just_table, gapped_table, joined_table, with_route, bend_options, mpe_options, end_at, one_note, chord, octave_apart, two_parts, taken_over, reset_between, wheel, counts, fault_of, on_first, on_three, bent, ready, change};
 
 /// Scale pitches and term counts, by example: a step of 50 cents from key 69, a map with a key left out, and a key 6,000 commas away.
@@ -87,4 +87,15 @@ pub fn output_examples()
     ensures bent_source { bent equal_table on_first (all_at 0 (Bend 0 16383 ∷ NoteOn 0 69 64 ∷ [])) ≡ all_at 0 (ready 0 ++ (Bend 0 9557 ∷ NoteOn 0 69 64 ∷ [])) }
     ensures fine_source { bent equal_table on_first (all_at 0 (Control 0 101 0 ∷ Control 0 100 1 ∷ Control 0 6 65 ∷ NoteOn 0 69 64 ∷ [])) ≡ all_at 0 (Control 0 101 0 ∷ Control 0 100 0 ∷ Control 0 6 12 ∷ registered 0 1 65 ++ NoteOn 0 69 64 ∷ []) }
     ensures mpe { mpe_output mpe_options equal_table (record { part = 0; upper = false; members = 1 } ∷ []) (λ k p. 1) one_note ≡ all_at 0 (registered 0 6 1) ++ (at 0 (NoteOn 1 69 64) ∷ at 480 (NoteOff 1 69 64) ∷ end_at 480 ∷ []) }
+{}
+
+/// The zones of two parts with needs 9 and 5, and of one part where drums are kept, by example.
+pub fn zone_examples()
+    ensures two_parts { zones_for ((0, 9) ∷ (1, 5) ∷ []) ≡ record { part = 0; upper = false; members = 9 } ∷ record { part = 1; upper = true; members = 5 } ∷ [] }
+    ensures greater_need { zones_for ((0, 5) ∷ (1, 9) ∷ []) ≡ record { part = 1; upper = false; members = 9 } ∷ record { part = 0; upper = true; members = 5 } ∷ [] }
+    ensures lower_allowed { lower_allowed false (zones_for ((0, 9) ∷ (1, 5) ∷ [])) ≡ 9 }
+    ensures alone { lower_allowed false (zones_for ((0, 9) ∷ [])) ≡ 15 }
+    ensures with_drums { lower_allowed true (zones_for ((0, 9) ∷ [])) ≡ 8 }
+    ensures upper_members { members_from (record { part = 1; upper = true; members = 5 }) 0 5 ≡ 14 ∷ 13 ∷ 12 ∷ 11 ∷ 10 ∷ [] }
+    ensures lower_members { members_from (record { part = 0; upper = false; members = 2 }) 0 2 ≡ 1 ∷ 2 ∷ [] }
 {}
