@@ -10,7 +10,7 @@ use Rattle.midi_model.specs.Notes.{ending}
 use Rattle.midi_model.specs.Music.{Music, quiet, play, channel_at, state_at}
 use Rattle.midi_model.specs.Receiver.{after}
 use Rattle.midi_model.specs.Played.{played}
-use Rattle.midi_model.specs.Select.{select}
+use Rattle.midi_model.specs.TuningBytes.{select_of}
 
 abbrev pub at : ℕ → Msg → MidiEvent
 at t m = record { tick = t; track = 0; what = Says m }
@@ -148,7 +148,7 @@ abbrev pub change : ℕ → ℕ → ℕ → List ℕ
 change a b c = 0x7f ∷ 0x7f ∷ 0x08 ∷ 0x02 ∷ 0x00 ∷ 0x01 ∷ 0x45 ∷ a ∷ b ∷ c ∷ 0xf7 ∷ []
 
 abbrev pub tuned : List MidiEvent
-tuned = sysex 0 dump ∷ all_at 0 (select 0 0 ++ NoteOn 0 69 64 ∷ [])
+tuned = sysex 0 dump ∷ all_at 0 (select_of 0 0 ++ NoteOn 0 69 64 ∷ [])
 
 -- A channel's state with a program, a volume and a bend range, and one with the bend range alone.
 abbrev pub voiced : State

@@ -16,7 +16,6 @@ pub mod Tuning
 pub mod Receiver
 pub mod Played
 pub mod Bring
-pub mod Select
 pub mod Order
 pub mod Writing
 pub mod FileExamples

@@ -48,6 +48,11 @@ EndsOnce [] = ⊥
 EndsOnce (e ∷ []) = is_end e.what ≡ true
 EndsOnce (e ∷ f ∷ es) = (is_end e.what ≡ false) × EndsOnce (f ∷ es)
 
+-- an event without its track
+abbrev pub timed : MidiEvent → Timed
+timed e = record { tick = e.tick; what = e.what }
+
+-- the events of one track
 abbrev pub of_track : ℕ → List MidiEvent → List MidiEvent
 of_track track es = filter (λ e. e.track == track) es
 

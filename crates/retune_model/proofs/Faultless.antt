@@ -7,13 +7,12 @@ use Rattle.mt_base.specs.declared.event.Msg.{Msg}
 use Rattle.mt_base.specs.declared.event.Msg.TheVariants.{NoteOn, NoteOff, KeyPressure, Control, Program, Pressure, Bend}
 use Rattle.mt_base.specs.Midi.{MidiWhat, Says, SysexOf, MetaOf, MidiEvent, channel_of}
 use Rattle.mt_base.specs.Valid.{IsValidMsg, IsValidWhat, IsValidEvent}
-use Rattle.midi_model.specs.Sysex.{Wanted, Exactly, Any, is_wanted, begins, key_values, changes, is_dump, is_change, tuning_of, is_reset, Retune, tunes, Doing, Plays, Resets, Tunes, Nothing, doing}
+use Rattle.midi_model.specs.Sysex.{Wanted, Exactly, Any, is_wanted, begins, key_values, changes, is_dump, is_change, tuning_of, is_reset, Retune, tunes, Doing, Plays, Resets, Tunes, Nothing, doing, is_tuning}
 use Rattle.midi_model.specs.Params.{pair_eq}
 use Rattle.midi_model.specs.Channel.{Role, Stored, EntryHigh, EntryLow, NrpnLow, NrpnHigh, RpnLow, RpnHigh, AllSoundOff, ResetControllers, AllNotesOff, Ignored, Selection, role, Target, Nowhere, TuningProgram, ZoneSize, Value, target_in, target}
 use Rattle.midi_model.specs.Zones.{no_zones, zones_with}
 use Rattle.midi_model.specs.Music.{Music, channel_at, asked, asked_by, asks, advance, step}
 use Rattle.retune_model.specs.Options.{Options, is_retuned}
-use Rattle.retune_model.specs.PlaysTheSame.{is_tuning}
 use Rattle.retune_model.specs.Plain.{is_plain_entry, is_plain, ArePlain}
 use Rattle.retune_model.specs.Faults.{Targets, Kind, TuningInSource, Port, is_part, first_that, is_entry, is_selected, is_tuning_entry, is_zone_entry, is_unmapped, is_out_of_device, message_tests, is_port, fault_in, fault_at, IsFaultless}
 

@@ -9,6 +9,7 @@ use Rattle.midi_model.specs.Zones.{no_zones}
 use Rattle.midi_model.specs.Notes.{Note}
 use Rattle.midi_model.specs.Music.{Music, channel_at}
 use Rattle.midi_model.specs.Tuning.{Tuning, selected_of, renew, retuned}
+use Rattle.midi_model.specs.TuningBytes.{numbered}
 use Rattle.midi_model.specs.Receiver.{Receiver}
 use Rattle.midi_model.specs.Played.{played, in_steps, fine, coarse, bent}
 use Rattle.midi_model.proofs.Played.{played_alone}
@@ -19,9 +20,18 @@ use Rattle.retune_model.specs.PlaysTheSame.{IsWithin}
 use Rattle.retune_model.specs.Routes.{Setup}
 use Rattle.retune_model.specs.Plain.{valued, told, IsTuned}
 use Rattle.retune_model.specs.Faults.{Targets}
-use Rattle.retune_model.specs.Dump.{tuning_if, tuning_at, each_key, IsDumpOf}
+use Rattle.retune_model.specs.Dump.{tuning_if, tuning_at, values_from, IsDumpOf}
 use Rattle.retune_model.proofs.Tunings.{made}
 use Rattle.retune_model.proofs.Rounded.{heard_within}
+
+-- each of n keys from k on, with what it is told
+abbrev each_key : (ℕ → Option ℕ) → ℕ → ℕ → List (ℕ × Option ℕ)
+each_key f k zero = []
+each_key f k (suc n) = (k, f k) ∷ each_key f (k + 1) n
+
+numbered_each : (f : ℕ → Option ℕ) (k n : ℕ) → numbered k (values_from f k n) ≡ each_key f k n
+numbered_each f k zero = refl
+numbered_each f k (suc n) = ap (λ xs. (k, f k) ∷ xs) (numbered_each f (k + 1) n)
 
 -- what is told of the keys from a on leaves those below
 past : (program : ℕ) (f : ℕ → Option ℕ) (n a k p : ℕ) (old : ℕ → ℕ → Option ℕ) → k < a → retuned program (each_key f a n) old p k ≡ old p k
@@ -65,6 +75,7 @@ value_of_key table s bytes c k t u one d h tuned =
     ap (λ f. f s.program k) tuned.values
     ∙ ap (λ ds. told ds none s.program k) h.dumped
     ∙ ap (λ r. valued r none s.program k) d.reads
+    ∙ ap (λ ks. retuned s.program ks none s.program k) (numbered_each (tuning_at table) 0 128)
     ∙ told_key s.program (tuning_at table) 128 0 k h.value none (omega arith) (omega (arith, h.low)) at
 
 -- the bounds of a key that has some are those of its pitch

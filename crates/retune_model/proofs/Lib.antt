@@ -19,3 +19,4 @@ pub mod Served
 pub mod DumpSame
 pub mod Others
 pub mod DumpFile
+pub mod Instances

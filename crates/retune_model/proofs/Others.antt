@@ -5,12 +5,12 @@ use Rattle.std.specs.List.{AllByRecursion, filter}
 use Rattle.std.proofs.lemmas.List.Elements.{filter-append}
 use Rattle.mt_base.specs.declared.event.Msg.{Msg}
 use Rattle.mt_base.specs.Midi.{MidiWhat, Says, SysexOf, MetaOf, Timed, MidiEvent}
-use Rattle.midi_model.specs.Sysex.{Doing, Plays, Resets, Tunes, Nothing, doing}
+use Rattle.midi_model.specs.Sysex.{Doing, Plays, Resets, Tunes, Nothing, doing, is_tuning}
 use Rattle.midi_model.specs.Music.{Music, quiet, step}
-use Rattle.midi_model.specs.Merged.{of_track}
+use Rattle.midi_model.specs.Merged.{of_track, timed}
 use Rattle.retune_model.specs.Options.{Options, Route, ByDump, bends_notes, is_drum_message, has_drums, keeps_drums, is_retuned}
 use Rattle.retune_model.specs.Table.{Scaling}
-use Rattle.retune_model.specs.PlaysTheSame.{timed, is_tuning, is_tuning_event, is_no_message, other_events, without_tuning, KeepsOtherEvents, drum_events, KeepsDrums}
+use Rattle.retune_model.specs.PlaysTheSame.{is_tuning_event, is_no_message, other_events, without_tuning, KeepsOtherEvents, drum_events, KeepsDrums}
 use Rattle.retune_model.specs.Faults.{Targets, Kind, TuningInSource, is_part, fault_in, IsFaultless}
 use Rattle.retune_model.specs.Blocks.{Group, Selects, Sends, all_events, written}
 use Rattle.retune_model.specs.Routes.{Setup, sends, selects, setup_at, dump_before, dump_behind, dump_next, dump_block}

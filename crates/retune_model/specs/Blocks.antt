@@ -6,14 +6,14 @@ use Rattle.mt_base.specs.Midi.{MidiEvent, Says, SysexOf}
 use Rattle.midi_model.specs.Sysex.{is_reset}
 use Rattle.midi_model.specs.Channel.{nothing_selected}
 use Rattle.midi_model.specs.Music.{Music, channel_at, step}
-use Rattle.midi_model.specs.Select.{select}
+use Rattle.midi_model.specs.TuningBytes.{select_of}
 
 abbrev pub says : ℕ → ℕ → Msg → MidiEvent
 says t track m = record { tick = t; track = track; what = Says m }
 
 -- the messages that select a tuning program on a channel (MIDI Tuning Standard), at one tick in one track
 abbrev pub selecting : ℕ → ℕ → ℕ → ℕ → List MidiEvent
-selecting t track c p = map (says t track) (select c p)
+selecting t track c p = map (says t track) (select_of c p)
 
 -- messages that belong together, at one tick in one track: those that select a tuning program on a channel, or one system
 -- exclusive message with the lead F0

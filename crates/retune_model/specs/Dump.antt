@@ -1,10 +1,11 @@
 -- The output of the dump and live routes for a source, its table and the options (this project's own).
 use Rattle.std.specs.Prelude.{◌≡◌, ℕ, zero, suc, ◌+◌, List, [], ◌∷◌, Bool, true, false, ◌&&◌, ◌||◌, filter, nat_eq, Option, Some, None}
 use Rattle.mt_base.specs.Midi.{MidiEvent}
-use Rattle.midi_model.specs.Sysex.{tuning_of, is_reset}
+use Rattle.midi_model.specs.Sysex.{tuning_of, is_reset, is_tuning}
+use Rattle.midi_model.specs.TuningBytes.{numbered}
 use Rattle.retune_model.specs.Table.{Bounds, tuning_target}
 use Rattle.retune_model.specs.Options.{Options}
-use Rattle.retune_model.specs.PlaysTheSame.{begins_note, is_tuning}
+use Rattle.retune_model.specs.PlaysTheSame.{begins_note}
 use Rattle.retune_model.specs.Faults.{Targets, is_part}
 use Rattle.retune_model.specs.Routes.{Setup, Live, dump_output, live_output}
 
@@ -29,14 +30,14 @@ tuning_if None = None
 abbrev pub tuning_at : Targets → ℕ → Option ℕ
 tuning_at table key = tuning_if (table key 0)
 
--- each of n keys from k on, with what it is told
-abbrev pub each_key : (ℕ → Option ℕ) → ℕ → ℕ → List (ℕ × Option ℕ)
-each_key f k zero = []
-each_key f k (suc n) = (k, f k) ∷ each_key f (k + 1) n
+-- what each of n keys from k on is told
+abbrev pub values_from : (ℕ → Option ℕ) → ℕ → ℕ → List (Option ℕ)
+values_from f k zero = []
+values_from f k (suc n) = f k ∷ values_from f (k + 1) n
 
 -- The bytes of a dump: they read as the targets of all 128 keys, and are a tuning message and no reset.
 pub record IsDumpOf (program : ℕ) (f : ℕ → Option ℕ) (bytes : List ℕ) : Type 0 where
-  pub reads : tuning_of bytes ≡ Some (record { program = program; keys = each_key f 0 128 })
+  pub reads : tuning_of bytes ≡ Some (record { program = program; keys = numbered 0 (values_from f 0 128) })
   pub tuning : is_tuning bytes ≡ true
   pub no_reset : is_reset bytes ≡ false
 

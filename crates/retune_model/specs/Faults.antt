@@ -3,6 +3,7 @@ use Rattle.std.specs.Prelude.{◌≡◌, ℕ, suc, ◌+◌, ◌*◌, ℤ, pos, n
 use Rattle.mt_base.specs.declared.event.Msg.{Msg}
 use Rattle.mt_base.specs.declared.event.Msg.TheVariants.{NoteOn, KeyPressure, Control}
 use Rattle.mt_base.specs.Midi.{MidiWhat, Says, SysexOf, MetaOf, MidiEvent, channel_of}
+use Rattle.midi_model.specs.Sysex.{is_tuning}
 use Rattle.midi_model.specs.Params.{Parameter, Entry, pair_eq, rank}
 use Rattle.midi_model.specs.Channel.{Channel, Selection, Role, EntryHigh, EntryLow, role}
 use Rattle.midi_model.specs.Notes.{Note, sounds}
@@ -10,7 +11,7 @@ use Rattle.midi_model.specs.Music.{Music, channel_at, step}
 use Rattle.retune_model.specs.Table.{Bounds, BendTarget, bend_target, tuning_target}
 use Rattle.retune_model.specs.Options.{Route, ByDump, ByLive, ByBend, ByMpe, Options, bends_notes, is_retuned}
 use Rattle.retune_model.specs.Source.{bend_in_steps}
-use Rattle.retune_model.specs.PlaysTheSame.{is_tuning, bend_target_if}
+use Rattle.retune_model.specs.PlaysTheSame.{bend_target_if}
 
 pub data Kind : Type 0 where
   UnmappedKey : Kind

@@ -1,6 +1,6 @@
 -- The output of the MPE route (MPE 1.0, in this project's profile): each of at most two parts has a zone. The part's messages go
 -- to the master, each note to the member of its pair, which has the pair's bend.
-use Rattle.std.specs.Prelude.{ℕ, zero, suc, ◌+◌, ◌-◌, ℤ, pos, ◌+ℤ◌, List, [], ◌∷◌, ◌++◌, Bool, true, false, ◌&&◌, ◌||◌, not, nat_eq, if◌then◌else◌, Option, Some, None, map}
+use Rattle.std.specs.Prelude.{ℕ, zero, suc, ◌+◌, ◌-◌, ℤ, pos, ◌+ℤ◌, List, [], ◌∷◌, ◌++◌, Bool, true, false, ◌&&◌, ◌||◌, not, nat_eq, nat_lt, if◌then◌else◌, Option, Some, None, map}
 use Rattle.std.specs.Set.{is_member}
 use Rattle.mt_base.specs.declared.pair.Pair.{Pair}
 use Rattle.mt_base.specs.declared.event.Msg.{Msg}
@@ -35,6 +35,30 @@ member_at z i = if z.upper then 14 - i else 1 + i
 abbrev pub members_from : Zone → ℕ → ℕ → List ℕ
 members_from z i zero = []
 members_from z i (suc n) = member_at z i ∷ members_from z (i + 1) n
+
+-- ---- which zones there are
+
+-- A part with its need. One part has the lower zone. Of two, given by channel, the one with the greater need has the lower zone,
+-- at equal needs the first; the other has the upper zone. A zone has as many members as its part needs.
+abbrev pub zone_with : Bool → ℕ × ℕ → Zone
+zone_with upper p = record { part = p.0; upper = upper; members = p.1 }
+
+abbrev pub zones_for : List (ℕ × ℕ) → List Zone
+zones_for [] = []
+zones_for (p ∷ []) = zone_with false p ∷ []
+zones_for (p ∷ q ∷ _) = if nat_lt p.1 q.1 then zone_with false q ∷ zone_with true p ∷ [] else zone_with false p ∷ zone_with true q ∷ []
+
+-- How many members the lower zone may have: 15 where it is alone, and with another zone 14 less what that one needs; 8 where drums
+-- keep channel 10. The upper zone may have 14, or 5.
+abbrev pub lower_allowed : Bool → List Zone → ℕ
+lower_allowed true zones = 8
+lower_allowed false (l ∷ u ∷ zones) = 14 - u.members
+lower_allowed false zones = 15
+
+abbrev pub upper_allowed : Bool → ℕ
+upper_allowed drums = if drums then 5 else 14
+
+-- ---- what sets them
 
 -- a registered parameter's high byte is set, and nothing left selected
 abbrev pub registered : ℕ → ℕ → ℕ → List Msg

@@ -1,8 +1,11 @@
 -- Which pairs of a part and a bend sound at each position (this project's own).
 use Rattle.std.specs.Prelude.{ℕ, ◌+◌, ℤ, pos, negsuc, List, [], ◌∷◌, Bool, true, false, ◌&&◌, ◌||◌, not, nat_eq, nat_lt, if◌then◌else◌, Option, Some, None, filter, map}
 use Rattle.mt_base.specs.declared.pair.Pair.{Pair}
+use Rattle.mt_base.specs.Midi.{MidiEvent}
 use Rattle.midi_model.specs.Notes.{Note, sounds}
 use Rattle.midi_model.specs.Music.{Music}
+use Rattle.midi_model.specs.Receiver.{after}
+use Rattle.retune_model.specs.PlaysTheSame.{retuned_notes}
 use Rattle.retune_model.specs.Table.{BendTarget}
 use Rattle.retune_model.specs.Options.{Options}
 use Rattle.retune_model.specs.Faults.{Targets, is_part, int_eq, target_of}
@@ -42,6 +45,10 @@ sounding o m = filter (λ n. is_part o n.channel && sounds n) m.notes
 -- The set of pairs at a position, by part and then by steps: those of the retuned notes that sound then.
 abbrev pub pairs_at : Options → Targets → List Numbered → ℕ → List Pair
 pairs_at o table ns k = pairs_of o table (sounding o (music_at ns k))
+
+-- The assignment that is read from an output: the channel of each retuned note, in the order of their note ons.
+abbrev pub channels_of : (ℕ → Bool) → List MidiEvent → List ℕ
+channels_of part out = map (λ (n : Note). n.channel) (retuned_notes part (after out))
 
 -- the pairs of one part alone
 abbrev pub pairs_of_part : Options → Targets → List Numbered → ℕ → ℕ → List Pair

@@ -8,8 +8,8 @@ use Rattle.mt_base.specs.declared.event.Msg.TheVariants.{NoteOn}
 use Rattle.mt_base.specs.Midi.{MidiWhat, Says, SysexOf, MetaOf, Timed, MidiEvent}
 use Rattle.mt_base.specs.Pitch.{Pitch, Within}
 use Rattle.midi_model.specs.FileText.{MidiFile}
-use Rattle.midi_model.specs.Merged.{merged, of_track}
-use Rattle.midi_model.specs.Sysex.{Wanted, Exactly, Any, begins}
+use Rattle.midi_model.specs.Merged.{merged, of_track, timed}
+use Rattle.midi_model.specs.Sysex.{is_tuning}
 use Rattle.midi_model.specs.Params.{Parameter, value_of, rpn}
 use Rattle.midi_model.specs.Channel.{Channel}
 use Rattle.midi_model.specs.Zones.{governor}
@@ -136,13 +136,6 @@ pub record PlaysTheSameMusic (scaling : Scaling) (o : Options) (table : ℕ → 
   pub beginnings : BeginsTheSame scaling o (is_retuned (keeps_drums o source)) source out
 
 -- ---- all else in the file
-
-abbrev pub timed : MidiEvent → Timed
-timed e = record { tick = e.tick; what = e.what }
-
--- a tuning message, by how it begins (MIDI Tuning Standard): 7E or 7F, the device, 08
-abbrev pub is_tuning : List ℕ → Bool
-is_tuning bytes = begins (Exactly 0x7e ∷ Any ∷ Exactly 0x08 ∷ []) bytes || begins (Exactly 0x7f ∷ Any ∷ Exactly 0x08 ∷ []) bytes
 
 abbrev pub is_tuning_event : MidiWhat → Bool
 is_tuning_event (SysexOf lead bytes) = nat_eq lead 0xf0 && is_tuning bytes

@@ -4,7 +4,7 @@ ghost use Rattle.std.specs.Prelude.{◌≡◌, ◌++◌, ◌+◌, ◌*◌, ◌-�
 ghost use Rattle.mt_base.specs.declared.event.Msg.TheVariants.{NoteOn, NoteOff, KeyPressure, Control, Program, Pressure, Bend};
 ghost use Rattle.mt_base.specs.Midi.{MetaOf};
 ghost use Rattle.midi_model.specs.Music.{quiet, play, channel_at};
-ghost use Rattle.midi_model.specs.Select.{select};
+ghost use Rattle.midi_model.specs.TuningBytes.{select_of};
 ghost use Rattle.midi_model.specs.Examples.{at, all_at, sysex, general_midi_on, registered, two_channels, dump};
 ghost use Rattle.retune_model.specs.Scale.{scale_pitch, term_count, a440_mapping};
 ghost use Rattle.retune_model.specs.Table.{nearest_tuning, nearest_key, nearest_steps};
@@ -14,7 +14,7 @@ ghost use Rattle.retune_model.specs.Faults.{UnmappedKey, Unison, BendTooFar, Mod
 ghost use Rattle.retune_model.specs.Numbered.{numbered, tick_at};
 ghost use Rattle.retune_model.specs.Pairs.{pairs_at};
 ghost use Rattle.retune_model.specs.Dump.{dumped, told_live};
-ghost use Rattle.retune_model.specs.MpeOutput.{mpe_output};
+ghost use Rattle.retune_model.specs.MpeOutput.{mpe_output, zones_for, lower_allowed, members_from};
 ghost use Rattle.retune_model.specs.Examples.{two_steps, comma, comma_mapping, gapped_mapping, equal_table, just_table, gapped_table, joined_table, with_route, bend_options, mpe_options, end_at, one_note, chord, octave_apart, two_parts, taken_over, reset_between, wheel, counts, fault_of, on_first, on_three, bent, ready, change};
 
 /// Scale pitches and term counts, by example: a step of 50 cents from key 69, a map with a key left out, and a key 6,000 commas away.
@@ -76,9 +76,9 @@ pub fn pair_examples()
 
 /// The outputs of the four routes, by example.
 pub fn output_examples()
-    ensures dump { dumped (with_route ByDump 12) dump one_note ≡ sysex 0 dump ∷ (all_at 0 (select 0 0) ++ one_note) }
+    ensures dump { dumped (with_route ByDump 12) dump one_note ≡ sysex 0 dump ∷ (all_at 0 (select_of 0 0) ++ one_note) }
     ensures dump_of_nothing { dumped (with_route ByDump 12) dump (end_at 0 ∷ []) ≡ end_at 0 ∷ [] }
-    ensures live { told_live (with_route ByLive 12) change one_note ≡ all_at 0 (select 0 0) ++ (sysex 0 (change 69) ∷ one_note) }
+    ensures live { told_live (with_route ByLive 12) change one_note ≡ all_at 0 (select_of 0 0) ++ (sysex 0 (change 69) ∷ one_note) }
     ensures bend { bent equal_table on_first one_note ≡ all_at 0 (ready 0) ++ one_note }
     ensures bend_chord { bent just_table on_three chord ≡ all_at 0 (ready 0 ++ (NoteOn 0 60 64 ∷ ready 1 ++ (Bend 1 8099 ∷ NoteOn 1 64 64 ∷ ready 2 ++ (Bend 2 8205 ∷ NoteOn 2 67 64 ∷ [])))) ++ all_at 480 (NoteOff 0 60 64 ∷ NoteOff 1 64 64 ∷ NoteOff 2 67 64 ∷ []) }
     ensures taken_over { bent equal_table on_first taken_over ≡ all_at 0 (Program 0 5 ∷ Control 0 7 80 ∷ ready 0 ++ NoteOn 0 69 64 ∷ []) ++ (all_at 480 (NoteOff 0 69 64 ∷ Program 0 0 ∷ Control 0 7 100 ∷ NoteOn 0 69 64 ∷ []) ++ at 960 (NoteOff 0 69 64) ∷ []) }
@@ -87,4 +87,15 @@ pub fn output_examples()
     ensures bent_source { bent equal_table on_first (all_at 0 (Bend 0 16383 ∷ NoteOn 0 69 64 ∷ [])) ≡ all_at 0 (ready 0 ++ (Bend 0 9557 ∷ NoteOn 0 69 64 ∷ [])) }
     ensures fine_source { bent equal_table on_first (all_at 0 (Control 0 101 0 ∷ Control 0 100 1 ∷ Control 0 6 65 ∷ NoteOn 0 69 64 ∷ [])) ≡ all_at 0 (Control 0 101 0 ∷ Control 0 100 0 ∷ Control 0 6 12 ∷ registered 0 1 65 ++ NoteOn 0 69 64 ∷ []) }
     ensures mpe { mpe_output mpe_options equal_table (record { part = 0; upper = false; members = 1 } ∷ []) (λ k p. 1) one_note ≡ all_at 0 (registered 0 6 1) ++ (at 0 (NoteOn 1 69 64) ∷ at 480 (NoteOff 1 69 64) ∷ end_at 480 ∷ []) }
+{}
+
+/// The zones of two parts with needs 9 and 5, and of one part where drums are kept, by example.
+pub fn zone_examples()
+    ensures two_parts { zones_for ((0, 9) ∷ (1, 5) ∷ []) ≡ record { part = 0; upper = false; members = 9 } ∷ record { part = 1; upper = true; members = 5 } ∷ [] }
+    ensures greater_need { zones_for ((0, 5) ∷ (1, 9) ∷ []) ≡ record { part = 1; upper = false; members = 9 } ∷ record { part = 0; upper = true; members = 5 } ∷ [] }
+    ensures lower_allowed { lower_allowed false (zones_for ((0, 9) ∷ (1, 5) ∷ [])) ≡ 9 }
+    ensures alone { lower_allowed false (zones_for ((0, 9) ∷ [])) ≡ 15 }
+    ensures with_drums { lower_allowed true (zones_for ((0, 9) ∷ [])) ≡ 8 }
+    ensures upper_members { members_from (record { part = 1; upper = true; members = 5 }) 0 5 ≡ 14 ∷ 13 ∷ 12 ∷ 11 ∷ 10 ∷ [] }
+    ensures lower_members { members_from (record { part = 0; upper = false; members = 2 }) 0 2 ≡ 1 ∷ 2 ∷ [] }
 {}

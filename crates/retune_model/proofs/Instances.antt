@@ -1,0 +1,74 @@
+-- The premises of the dump route's laws can be met: a source with a reset between two notes, in equal temperament.
+use Rattle.std.proofs.Common.{◌≡◌, ◌≤◌, ◌<◌, ◌*◌, ◌+◌, ℕ, List, [], ◌∷◌, Bool, true, false, cond, Option, Some, None, refl, ap, sym, ◌∙◌, subst, arith, pos, lit≤, inl, inr, nat_le, ◌&&◌}
+use Rattle.std.proofs.lemmas.Int.{ints}
+use Rattle.std.proofs.lemmas.Bool.{lt-leb}
+use Rattle.mt_base.specs.Pitch.{Pitch, exactly}
+use Rattle.mt_base.proofs.Pitches.{least_of_exact, most_of_exact}
+use Rattle.mt_base.specs.Midi.{MidiEvent}
+use Rattle.midi_model.specs.Music.{quiet}
+use Rattle.midi_model.specs.Examples.{dump}
+use Rattle.retune_model.specs.Scale.{Step, Mapping, scale_pitch, term_count, ratios_of_key, is_mapped_range}
+use Rattle.retune_model.specs.Table.{Scaling, one_scale, pitch_at, terms_at, ratios_at_key, Bounds, AreBounds, Bound, IsTable, AreFewTerms}
+use Rattle.retune_model.specs.Options.{ByDump}
+use Rattle.retune_model.specs.PlaysTheSame.{PlaysTheSameMusic}
+use Rattle.retune_model.specs.Dump.{dumped}
+use Rattle.retune_model.specs.Dumpable.{IsDumpable}
+use Rattle.retune_model.specs.Examples.{equal_table, exact_bounds, with_route, reset_between}
+use Rattle.retune_model.proofs.DumpSame.{dump_plays_the_same}
+
+-- a mapping that leaves every key in equal temperament
+abbrev no_keys : Mapping
+no_keys = record { first = 200; last = 200; middle = 60; reference = 60; nanohertz = 440000000000; octave = 0; entries = [] }
+
+abbrev even : Scaling
+even = one_scale [] no_keys
+
+outside : (key : ℕ) → key ≤ 127 → is_mapped_range no_keys key ≡ false
+outside key h = ap (λ b. b && nat_le key 200) (lt-leb 200 key (omega (arith, h)))
+
+even_pitch : (key : ℕ) → key ≤ 127 → scale_pitch [] no_keys key ≡ Some (exactly (pos (3200000000000 * key)))
+unfolding scale_pitch
+even_pitch key h = rw (outside key h) refl
+
+even_terms : (key : ℕ) → key ≤ 127 → term_count [] no_keys key ≡ 0
+unfolding term_count
+even_terms key h = rw (outside key h) refl
+
+even_bounds : (key : ℕ) (ratios : List (ℕ × ℕ)) → AreBounds (exactly (pos (3200000000000 * key))) 0 ratios (exact_bounds (3200000000000 * key))
+even_bounds key ratios = record {
+  least = least_of_exact (pos (3200000000000 * key));
+  most = most_of_exact (pos (3200000000000 * key));
+  narrow = omega (arith, ints);
+  exact = λ h. refl;
+}
+
+pub even_table : IsTable even equal_table
+even_table = record {
+  bounds = λ key onset h.
+      subst (λ p. Bound (terms_at even key onset) (ratios_at_key even key onset) p (equal_table key onset)) (sym (even_pitch key h))
+      (subst (λ n. AreBounds (exactly (pos (3200000000000 * key))) n (ratios_at_key even key onset) (exact_bounds (3200000000000 * key))) (sym (even_terms key h)) (even_bounds key (ratios_at_key even key onset)));
+}
+
+pub dumpable : IsDumpable even (with_route ByDump 12) equal_table dump reset_between
+dumpable = record {
+  route = refl;
+  valid = (
+    record { tick = omega arith; what = (omega arith, omega arith, omega arith) },
+    (
+      record { tick = omega arith; what = (inl refl, omega arith) },
+      (
+        record { tick = omega arith; what = (omega arith, omega arith, omega arith) },
+        (record { tick = omega arith; what = (omega arith, omega arith, omega arith) }, tt),
+      ),
+    ),
+  );
+  in_order = (omega arith, (omega arith, (omega arith, (omega arith, tt))));
+  faultless = (refl, (refl, (refl, (refl, tt))));
+  bounds = even_table;
+  few_terms = λ key onset h. (let e : term_count [] no_keys key ≡ 0 = even_terms key h in omega (arith, e));
+  one_table = λ key onset. refl;
+  dump = record { reads = refl; tuning = refl; no_reset = refl };
+}
+
+pub same : PlaysTheSameMusic even (with_route ByDump 12) equal_table reset_between (dumped (with_route ByDump 12) dump reset_between)
+same = dump_plays_the_same even (with_route ByDump 12) equal_table dump reset_between dumpable
