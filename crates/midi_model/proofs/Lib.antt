@@ -12,6 +12,7 @@ pub mod Playing
 pub mod Failing
 pub mod Faulting
 pub mod Cutting
+pub mod Longest
 pub mod Same
 pub mod Steady
 pub mod Timely
