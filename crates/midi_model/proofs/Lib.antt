@@ -13,6 +13,7 @@ pub mod Failing
 pub mod Faulting
 pub mod Cutting
 pub mod Longest
+pub mod Ending
 pub mod Same
 pub mod Steady
 pub mod Timely

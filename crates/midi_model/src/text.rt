@@ -14,6 +14,7 @@ pub fn file_laws()
     // The first fault is what is wrong after the longest front that breaks no rule.
     ensures first { (bytes : List ℕ) (offset : ℕ) (kind : SmfKind) → file_at bytes ≡ Err (offset, kind) → FirstFault bytes offset kind }
     ensures read_first { (bytes : List ℕ) (offset : ℕ) (kind : SmfKind) → FirstFault bytes offset kind → file_at bytes ≡ Err (offset, kind) }
+    ensures offset { (bytes : List ℕ) (offset : ℕ) (kind : SmfKind) (f : FirstFault bytes offset kind) → (front : List ℕ) × (bytes ≡ front ++ f.back) × (length front ≡ offset) }
     // No front of whole events of a track is longer than the one before its fault.
     ensures longest { (content back : List ℕ) (kind : SmfKind) (t : TrackFault 0 0 content back kind) (front rest : List ℕ) (events : List Timed) (running tick : ℕ) → AreEvents 0 0 front events running tick → content ≡ front ++ rest → length front ≤ length t.front }
     ensures one_fault { (bytes : List ℕ) (at : ℕ) (kind : SmfKind) (at2 : ℕ) (kind2 : SmfKind) → FirstFault bytes at kind → FirstFault bytes at2 kind2 → (at ≡ at2) × (kind ≡ kind2) }
