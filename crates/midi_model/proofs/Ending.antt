@@ -1,8 +1,8 @@
 -- The bytes from a fault on are the end of all bytes.
-use Rattle.std.proofs.Common.{◌≡◌, ℕ, zero, suc, ◌+◌, ◌-◌, ◌<◌, ◌≤◌, ◌⊎◌, List, [], ◌∷◌, ◌++◌, length, take, drop, refl, sym, ap, ◌∙◌, inl, inr, arith, append_assoc}
+use Rattle.std.proofs.Common.{◌≡◌, ℕ, zero, suc, ◌<◌, ◌⊎◌, List, [], ◌∷◌, ◌++◌, length, take, refl, sym, ap, ◌∙◌, inl, inr, arith, append_assoc}
 use Rattle.std.proofs.lemmas.List.{length-append, append-nil, take-append-drop}
 use Rattle.midi_model.specs.declared.fault.SmfKind.{SmfKind}
-use Rattle.midi_model.specs.Faults.{DigitsFault, QuantityFault, DataFault, MessageFault, BytesFault, ContentFault, MetaFault, BodyFault, EventFault, TrackFault, ChunkFault, NextFault, TracksFault, FieldsFault, HeaderFault, FileFault, FirstFault}
+use Rattle.midi_model.specs.Faults.{DigitsFault, DataFault, MessageFault, ContentFault, MetaFault, BodyFault, EventFault, TrackFault, ChunkFault, NextFault, TracksFault, FieldsFault, HeaderFault, FileFault, FirstFault}
 
 abbrev EndsWith : List ℕ → List ℕ → Type 0
 EndsWith bytes back = (front : List ℕ) × (bytes ≡ front ++ back)

@@ -1,13 +1,12 @@
 -- No front of whole events is longer than the one behind which the fault is.
-use Rattle.std.proofs.Common.{◌≡◌, ℕ, ◌+◌, ◌<◌, ◌≤◌, ◌⊎◌, List, [], ◌∷◌, ◌++◌, length, Result, Ok, Err, refl, sym, ap, subst, ◌∙◌, inl, inr, arith, append_assoc, length-append}
-use Rattle.midi_model.specs.declared.fault.Stop.{Stop}
+use Rattle.std.proofs.Common.{◌≡◌, ℕ, ◌<◌, ◌≤◌, ◌⊎◌, List, [], ◌∷◌, ◌++◌, length, Ok, refl, sym, ap, subst, ◌∙◌, inl, inr, arith, append_assoc, length-append}
 use Rattle.midi_model.specs.declared.fault.SmfKind.{SmfKind}
 use Rattle.midi_model.specs.declared.fault.SmfKind.TheVariants.{MissingEnd}
 use Rattle.mt_base.specs.Midi.{Timed}
-use Rattle.midi_model.specs.Reading.{event_at, IsRunning, stop}
+use Rattle.midi_model.specs.Reading.{event_at, IsRunning}
 use Rattle.midi_model.specs.Spelling.{IsEvent}
 use Rattle.midi_model.specs.Faults.{EventFault, AreEvents, TrackFault}
-use Rattle.midi_model.proofs.Laws.{done, ok_is, shorter}
+use Rattle.midi_model.proofs.Laws.{ok_is, shorter}
 use Rattle.midi_model.proofs.Again.{event_again, running_after}
 use Rattle.midi_model.proofs.Failing.{event_fail}
 

@@ -1,4 +1,3 @@
-use Rattle.std.proofs.Common.{◌≡◌}
 use Rattle.midi_model.proofs.Files.{file_takes, file_again, one_file}
 use Rattle.midi_model.proofs.Faulting.{fault_takes, fault_again, one_fault, file_or_fault, never_both}
 use Rattle.midi_model.proofs.Cutting.{cut_off}
