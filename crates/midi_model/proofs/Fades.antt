@@ -28,19 +28,19 @@ fades_if : (b : Bool) (n x y : Note) → Fades n x → Fades n y → Fades n (co
 fades_if true n x y h k = h
 fades_if false n x y h k = k
 
-fades_ending : (t : ℕ) (n : Note) → Fades n (ending t n)
+pub fades_ending : (t : ℕ) (n : Note) → Fades n (ending t n)
 fades_ending t n = fades_if (sounds n) n _ n (record { channel = refl; key = refl; onset = refl; velocity = refl; voice = refl; sounds = λ h. absurd cc }) (fades_same n)
 
 fades_lifting : (t v : ℕ) (n : Note) → Fades n (releasing t v n)
 fades_lifting t v n = fades_if (is_down n) n _ n (record { channel = refl; key = refl; onset = refl; velocity = refl; voice = refl; sounds = λ h. h }) (fades_same n)
 
-fades_cut : (t c k : ℕ) (n : Note) → Fades n (cut_off t c k n)
+pub fades_cut : (t c k : ℕ) (n : Note) → Fades n (cut_off t c k n)
 fades_cut t c k n = fades_if (is_at c k n) n (ending t n) n (fades_ending t n) (fades_same n)
 
-fades_lift : (t c k v : ℕ) (n : Note) → Fades n (release_key t c k v n)
+pub fades_lift : (t c k v : ℕ) (n : Note) → Fades n (release_key t c k v n)
 fades_lift t c k v n = fades_if (is_at c k n) n (releasing t v n) n (fades_lifting t v n) (fades_same n)
 
-fades_press : (c k v : ℕ) (n : Note) → Fades n (with_pressure c k v n)
+pub fades_press : (c k v : ℕ) (n : Note) → Fades n (with_pressure c k v n)
 fades_press c k v n = fades_if (is_at c k n && sounds n) n _ n (record { channel = refl; key = refl; onset = refl; velocity = refl; voice = refl; sounds = λ h. h }) (fades_same n)
 
 fades_sostenuto : (z : Zones) (c before v : ℕ) (n : Note) → Fades n (sostenuto z c before v n)
@@ -64,7 +64,7 @@ fades_silence t z c n = fades_if (hears z c n) n (ending t n) n (fades_ending t 
 fades_lift_all : (t : ℕ) (z : Zones) (c : ℕ) (n : Note) → Fades n (release_all t z c n)
 fades_lift_all t z c n = fades_if (hears z c n) n (releasing t 64 n) n (fades_lifting t 64 n) (fades_same n)
 
-fades_settle : (ss : List Channel) (z : Zones) (t : ℕ) (n : Note) → Fades n (settle_note ss z t n)
+pub fades_settle : (ss : List Channel) (z : Zones) (t : ℕ) (n : Note) → Fades n (settle_note ss z t n)
 fades_settle ss z t n = fades_if (is_over ss z n) n (ending t n) n (fades_ending t n) (fades_same n)
 
 -- of a list, note by note
@@ -73,7 +73,7 @@ AllFade [] [] = Unit {0}
 AllFade (n ∷ ns) (x ∷ xs) = Fades n x × AllFade ns xs
 AllFade _ _ = ⊥
 
-all_fade : (f : Note → Note) → ((n : Note) → Fades n (f n)) → (ns : List Note) → AllFade ns (map f ns)
+pub all_fade : (f : Note → Note) → ((n : Note) → Fades n (f n)) → (ns : List Note) → AllFade ns (map f ns)
 all_fade f h [] = tt
 all_fade f h (n ∷ ns) = (h n, all_fade f h ns)
 
@@ -81,7 +81,7 @@ all_same : (ns : List Note) → AllFade ns ns
 all_same [] = tt
 all_same (n ∷ ns) = (fades_same n, all_same ns)
 
-fade_turned : (m : Music) (t c n v : ℕ) (r : Role) → AllFade m.notes (notes_turned m t c n v r)
+pub fade_turned : (m : Music) (t c n v : ℕ) (r : Role) → AllFade m.notes (notes_turned m t c n v r)
 fade_turned m t c n v Stored = pick (nat_eq n 66)
   where
     old : ℕ

@@ -17,6 +17,7 @@ pub mod Ending
 pub mod Same
 pub mod Steady
 pub mod Timely
+pub mod Begun
 pub mod Channels
 pub mod Fades
 pub mod Parameters

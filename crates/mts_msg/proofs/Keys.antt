@@ -1,6 +1,6 @@
-use Rattle.std.proofs.Common.{◌≡◌, ◌<◌, ◌≤◌, ℕ, zero, suc, ◌+◌, ◌*◌, List, [], ◌∷◌, ◌++◌, length, take, drop, get_or, set, nat_lt, ◌&&◌, refl, sym, ◌∙◌, ap, arith, Option, slice_index_or, append_assoc, append-nil, drop_of_length-le}
+use Rattle.std.proofs.Common.{◌≡◌, ◌<◌, ℕ, ◌+◌, ◌*◌, List, [], ◌∷◌, ◌++◌, length, take, drop, get_or, set, nat_lt, ◌&&◌, refl, sym, ◌∙◌, ap, arith, Option, append_assoc, append-nil, drop_of_length-le}
 use Rattle.std.proofs.lemmas.List.{drop_more, take_more_set, length-take, take_all}
-use Rattle.midi_model.specs.Sysex.{all_low, value_at, key_values, changes}
+use Rattle.midi_model.specs.Sysex.{all_low, value_at, key_values}
 use Rattle.midi_model.specs.TuningBytes.{numbered}
 
 pub low_from : (bytes : List ℕ) (i : ℕ) → i < length bytes → all_low (drop i bytes) ≡ (nat_lt (get_or bytes i 0) 128 && all_low (drop (i + 1) bytes))

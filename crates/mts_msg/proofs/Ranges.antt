@@ -1,12 +1,12 @@
-use Rattle.std.proofs.Common.{◌≡◌, ◌<◌, ◌≤◌, ℕ, zero, suc, ◌+◌, ◌*◌, ◌-◌, List, [], ◌∷◌, length, take, drop, get_or, nat_lt, nat_eq, ◌&&◌, true, false, refl, sym, ◌∙◌, ap, arith, Option, Some, None}
+use Rattle.std.proofs.Common.{◌≡◌, ◌<◌, ◌≤◌, ℕ, zero, suc, ◌+◌, ◌*◌, ◌-◌, List, [], ◌∷◌, length, take, drop, get_or, nat_lt, nat_eq, true, false, refl, sym, ◌∙◌, ap, arith, Option, Some, None}
 use Rattle.std.specs.List.{AllByRecursion}
-use Rattle.std.proofs.lemmas.List.{get_or-take, length-take, length-drop}
+use Rattle.std.proofs.lemmas.List.{get_or-take, length-take}
 use Rattle.std.proofs.lemmas.Bool.{ltb-true, and_from, and_parts, eqb-true, cond-true, cond-false, both_ways}
 use Rattle.midi_model.specs.Sysex.{all_low, key_values, changes, is_dump, is_change, tuning_of, Retune, begins, Exactly, Any}
 use Rattle.midi_model.specs.TuningBytes.{IsTuningValue, numbered}
 use Rattle.mts_msg.specs.Readings.{IsInRange, ReadsDumps}
 use Rattle.mts_msg.specs.declared.reading.Tuning.{Tuning}
-use Rattle.mts_msg.specs.declared.reading.Tuning.TheVariants.{Dump, Changes}
+use Rattle.mts_msg.specs.declared.reading.Tuning.TheVariants.{Dump}
 use Rattle.mts_msg.proofs.Written.{value_range, dump_is, dump_again}
 
 pub low_at : (bytes : List ℕ) (i : ℕ) → all_low bytes ≡ true → get_or bytes i 0 < 128

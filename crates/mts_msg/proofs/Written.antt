@@ -1,12 +1,10 @@
-use Rattle.std.proofs.Common.{◌≡◌, ◌<◌, ◌≤◌, ℕ, ◌+◌, ◌*◌, ◌/◌, ◌%◌, ◌^◌, List, [], ◌∷◌, ◌++◌, length, take, drop, get_or, nat_lt, nat_eq, ◌&&◌, Bool, true, false, cond, if◌then◌else◌, refl, sym, ◌∙◌, ap, arith, Option, Some, None, inl, inr, length-append, ◌≢◌, bit_xor}
+use Rattle.std.proofs.Common.{◌≡◌, ◌<◌, ◌≤◌, ℕ, ◌+◌, ◌*◌, ◌/◌, ◌%◌, List, [], ◌∷◌, ◌++◌, length, take, drop, get_or, nat_lt, nat_eq, ◌&&◌, true, false, refl, sym, ◌∙◌, ap, arith, Option, Some, None, inl, inr, length-append}
 use Rattle.std.specs.List.{flat_map, AllByRecursion}
-use Rattle.std.proofs.lemmas.List.{take_all}
 use Rattle.std.proofs.Math.Seq.{take-append-add, take-append_seam, get_or-append_seam}
 use Rattle.std.proofs.lemmas.List.{get_or-append-add}
-use Rattle.std.proofs.lemmas.Bool.{lt-ltb, ltb-true, and_from, and_parts, and_left, and_right, and_cases, eq-eqb, cases_lt, cases_eq, ne_eqb, cond-false, cond-true, cond_both}
-use Rattle.std.proofs.lemmas.Bool.Decides.{eqb_tells}
+use Rattle.std.proofs.lemmas.Bool.{lt-ltb, ltb-true, and_from, and_parts, and_left, and_right, eq-eqb, cases_lt, cases_eq, ne_eqb, cond-false, cond-true, cond_both}
 use Rattle.std.proofs.lemmas.Nat.{xor_lt}
-use Rattle.midi_model.specs.Sysex.{all_low, xor_all, value_at, key_values, changes, is_dump, is_change, tuning_of, Retune}
+use Rattle.midi_model.specs.Sysex.{all_low, xor_all, value_at, key_values, is_dump, is_change, Retune}
 use Rattle.midi_model.specs.TuningBytes.{value_bytes, IsTuningValue, dump_name, dump_body, dump_bytes, change_bytes, numbered}
 use Rattle.mts_msg.specs.Readings.{DumpsAreReadAgain, ChangesAreReadAgain}
 use Rattle.mts_msg.proofs.Lengths.{values_length}

@@ -1,4 +1,3 @@
-use Rattle.std.specs.Prelude.{ℕ}
 use Rattle.midi_model.specs.Sysex.{Wanted, Exactly, Any, HighHalf}
 use Rattle.mts_msg.specs.declared.pattern.Place.{Place}
 use Rattle.mts_msg.specs.declared.pattern.Place.TheVariants as place

@@ -1,10 +1,6 @@
-ghost use Rattle.std.specs.Prelude.{◌≡◌, ◌≤◌, OnOk, map, List, length};
+ghost use Rattle.std.specs.Prelude.{◌≡◌, ◌≤◌, ◌+◌, OnOk, length, false};
 ghost use Rattle.mt_base.specs.Midi.{view};
-ghost use Rattle.midi_model.specs.Writing.{written};
-ghost use Rattle.midi_model.specs.Merged.{IsPlayable};
-ghost use Rattle.event_stream.specs.Distributed.{distributed};
-ghost use Rattle.retune_model.specs.Routes.{dump_output};
-ghost use Rattle.mtune_core.specs.Putting.{AllMayPut, put_all, said_at, setup_events, view_setup};
+ghost use Rattle.mtune_core.specs.Putting.{AllMayPut, put_all, said_at, any_of, marked, view_setup, dump_events, select_events, block_events, written_from};
 
 use crate::source::is_message;
 use arrayvec::ArrayVec;
@@ -23,24 +19,42 @@ pub struct Setup {
     pub program: u8,
 }
 
-/// Puts messages at an event's tick into its track.
-fn put_messages(out: &mut TrackSet, at: &Event<'_>, messages: &[Msg]) -> Result<(), Memory>
-    requires { AllMayPut out.old (map (said_at (view at.now)) messages.now) }
-    ensures { OnOk result (out.new ≡ put_all out.old (map (said_at (view at.now)) messages.now)) }
+/// Whether there is a part.
+fn has_part(parts: &[bool]) -> bool
+    ensures { result ≡ any_of parts.now }
 {
-    for message in messages {
-        out.put(&Event {
-            tick: at.tick,
-            track: at.track,
-            what: What::Message(*message),
-        })?;
+    match parts {
+        [] => false,
+        [first, rest @ ..] => *first || has_part(rest),
     }
-    Ok(())
+}
+
+/// Puts messages at an event's tick into its track.
+#[tactic(auto, unfolding(crate::specs::Putting::AllMayPut, crate::specs::Putting::put_all))]
+fn put_messages(out: &mut TrackSet, at: &Event<'_>, messages: &[Msg]) -> Result<(), Memory>
+    requires { AllMayPut out.old (said_at (view at.now) messages.now) }
+    ensures { OnOk result (out.new ≡ put_all out.old (said_at (view at.now) messages.now)) }
+{
+    match messages {
+        [] => Ok(()),
+        [first, rest @ ..] => {
+            out.put(&Event {
+                tick: at.tick,
+                track: at.track,
+                what: What::Message(*first),
+            })?;
+            put_messages(out, at, rest)
+        }
+    }
 }
 
 /// Puts the dump at an event's tick into its track, where some part selects it.
-fn put_dump(out: &mut TrackSet, at: &Event<'_>, setup: &Setup) -> Result<(), Memory> {
-    if setup.parts.iter().any(|has| *has) {
+#[tactic(auto, unfolding(crate::specs::Putting::AllMayPut, crate::specs::Putting::put_all))]
+fn put_dump(out: &mut TrackSet, at: &Event<'_>, setup: &Setup) -> Result<(), Memory>
+    requires { AllMayPut out.old (dump_events (view_setup setup.now) (view at.now)) }
+    ensures { OnOk result (out.new ≡ put_all out.old (dump_events (view_setup setup.now) (view at.now))) }
+{
+    if has_part(&setup.parts) {
         out.put(&Event {
             tick: at.tick,
             track: at.track,
@@ -54,32 +68,66 @@ fn put_dump(out: &mut TrackSet, at: &Event<'_>, setup: &Setup) -> Result<(), Mem
 }
 
 /// Puts the selection of the program at an event's tick into its track, for each part, by channel.
-fn put_selects(out: &mut TrackSet, at: &Event<'_>, setup: &Setup) -> Result<(), Memory> {
-    for number in 0..16u8 {
-        if let Some(channel) = Channel::new(number) {
-            if setup.parts[number as usize] {
-                put_messages(out, at, select(channel, setup.program).as_slice())?;
+/// The first of the parts is that of a channel.
+fn put_selects(
+    out: &mut TrackSet,
+    at: &Event<'_>,
+    program: u8,
+    channel: u8,
+    parts: &[bool],
+) -> Result<(), Memory>
+    requires program { program ≤ 127 }
+    requires channels { channel + length parts.now ≤ 16 }
+    requires may { AllMayPut out.old (select_events program (view at.now) (marked channel parts.now)) }
+    ensures { OnOk result (out.new ≡ put_all out.old (select_events program (view at.now) (marked channel parts.now))) }
+{
+    match parts {
+        [] => Ok(()),
+        [has, rest @ ..] => {
+            if *has {
+                if let Some(part) = Channel::new(channel) {
+                    put_messages(out, at, select(part, program).as_slice())?;
+                }
             }
+            put_selects(out, at, program, channel + 1, rest)
         }
     }
-    Ok(())
+}
+
+/// Puts an event, and the setup before it where it is the first channel message.
+fn put_block(
+    out: &mut TrackSet,
+    event: &Event<'_>,
+    setup: &Setup,
+    begun: bool,
+) -> Result<(), Memory>
+    requires program { setup.now.program ≤ 127 }
+    requires may { AllMayPut out.old (block_events (view_setup setup.now) begun (view event.now)) }
+    ensures { OnOk result (out.new ≡ put_all out.old (block_events (view_setup setup.now) begun (view event.now))) }
+{
+    if !begun && is_message(&event.what) {
+        put_dump(out, event, setup)?;
+        put_selects(out, event, setup.program, 0, &setup.parts)?;
+    }
+    out.put(event)
 }
 
 /// Puts all events of a stream, and the setup right before the first channel message.
+#[tactic(auto, unfolding(crate::specs::Putting::written_from))]
 pub fn translate<'a, S: EventStream<'a>>(
     stream: &mut S,
     setup: &Setup,
     out: &mut TrackSet,
-) -> Result<(), Memory> {
+) -> Result<(), Memory>
+    requires program { setup.now.program ≤ 127 }
+    requires may { AllMayPut out.old (written_from (view_setup setup.now) false (S.all stream.old)) }
+    ensures { OnOk result (out.new ≡ put_all out.old (written_from (view_setup setup.now) false (S.all stream.old))) }
+{
     stream.rewind();
     let mut begun = false;
     'events: while let Some(event) = stream.next() {
-        if !begun && is_message(&event.what) {
-            put_dump(out, &event, setup)?;
-            put_selects(out, &event, setup)?;
-            begun = true;
-        }
-        out.put(&event)?;
+        put_block(out, &event, setup, begun)?;
+        begun = begun || is_message(&event.what);
     }
     Ok(())
 }

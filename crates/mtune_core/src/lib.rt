@@ -13,3 +13,6 @@ mod words;
 
 pub use outcome::{Fault, Outcome};
 pub use retune::run;
+
+#[cfg(test)]
+mod tests;

@@ -1,4 +1,4 @@
-ghost use Rattle.std.specs.Prelude.{◌≡◌, ◌≤◌, length};
+ghost use Rattle.std.specs.Prelude.{◌≡◌, ◌≤◌, length, count_by};
 
 use crate::contents::{INPUT_LIMIT, TEXT_LIMIT, load, read_input, read_scale};
 use crate::dump::{Setup, translate};
@@ -36,14 +36,10 @@ fn are_played(keys: &[bool; 128], targets: &Targets) -> bool {
 }
 
 /// How many of the parts there are.
-fn count(parts: &[bool; 16]) -> u32 {
-    let mut count = 0u32;
-    for part in parts {
-        if *part {
-            count += 1;
-        }
-    }
-    count
+fn count(parts: &[bool; 16]) -> u32
+    ensures { result ≡ count_by (λ b. b) parts.now }
+{
+    parts.iter().filter(|has| **has).count() as u32
 }
 
 /// The survey of a source, where it is taken and the device can play it.

@@ -6,7 +6,8 @@ use std::alloc::Global;
 use std::process::Abort;
 use std::test::Fail;
 
-const E12: &str = "e12\n12\n100.0\n200.0\n300.0\n400.0\n500.0\n600.0\n700.0\n800.0\n900.0\n1000.0\n1100.0\n1200.0\n";
+const E12: &str =
+    "e12\n12\n100.0\n200.0\n300.0\n400.0\n500.0\n600.0\n700.0\n800.0\n900.0\n1000.0\n1100.0\n1200.0\n";
 
 /// One note of key 69 on the first channel, from tick 0 to 480.
 const ONE_NOTE: [u8; 35] = [
@@ -68,7 +69,15 @@ fn joined(alloc: Global, parts: &[&[u8]]) -> Result<Vec<u8>, Fail> {
 }
 
 /// Checks an outcome, what was said, and what is held at the output's name.
-fn check(rt: &impl Abort, files: &MemFiles, outcome: Outcome, fault: Option<Fault>, status: u8, said: &str, held: Option<&[u8]>) {
+fn check(
+    rt: &impl Abort,
+    files: &MemFiles,
+    outcome: Outcome,
+    fault: Option<Fault>,
+    status: u8,
+    said: &str,
+    held: Option<&[u8]>,
+) {
     assert_eq!(rt; outcome.status, status);
     assert!(rt; outcome.fault == fault);
     assert!(rt; files.text() == said.as_bytes());
@@ -80,10 +89,21 @@ fn one_note_is_dumped(rt: HostRuntime) -> Result<(), Fail> {
     let alloc = rt.alloc();
     let mut files = files(alloc, E12, &ONE_NOTE)?;
     let outcome = run(alloc, WORDS.as_slice(), &mut files);
-    let track = joined(alloc, &[dump_event(alloc)?.as_slice(), &SELECT, &ONE_NOTE[22..]])?;
+    let track = joined(
+        alloc,
+        &[dump_event(alloc)?.as_slice(), &SELECT, &ONE_NOTE[22..]],
+    )?;
     let output = file(alloc, 0, 1, &[track.as_slice()])?;
     assert_eq!(rt; output.len(), 462);
-    check(&rt, &files, outcome, None, 0, "route dump\nnotes 1\nchannels 1\n", Some(output.as_slice()));
+    check(
+        &rt,
+        &files,
+        outcome,
+        None,
+        0,
+        "route dump\nnotes 1\nchannels 1\n",
+        Some(output.as_slice()),
+    );
     Ok(())
 }
 
@@ -92,7 +112,15 @@ fn no_words_are_refused(rt: HostRuntime) -> Result<(), Fail> {
     let alloc = rt.alloc();
     let mut files = files(alloc, E12, &ONE_NOTE)?;
     let outcome = run(alloc, &[], &mut files);
-    check(&rt, &files, outcome, Some(Fault::Usage { kind: 1 }), 1, "mtune: usage 1\n", None);
+    check(
+        &rt,
+        &files,
+        outcome,
+        Some(Fault::Usage { kind: 1 }),
+        1,
+        "mtune: usage 1\n",
+        None,
+    );
     assert_eq!(rt; files.count(0), 0);
     Ok(())
 }

@@ -11,3 +11,11 @@ pub mod Placed
 pub mod SamePairs
 pub mod Beside
 pub mod DumpPlayable
+pub mod Faultless
+pub mod Rounded
+pub mod Heard
+pub mod Fronts
+pub mod Served
+pub mod DumpSame
+pub mod Others
+pub mod DumpFile

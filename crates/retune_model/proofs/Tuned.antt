@@ -131,11 +131,11 @@ still_tuned s part u v parts l h = record {
 }
 
 -- before any channel message no program has a value; after one, the setup stands
-abbrev Tells : Setup → Bool → Tuning → Type 0
+abbrev pub Tells : Setup → Bool → Tuning → Type 0
 Tells s true u = IsTuned s u
 Tells s false u = (u.values ≡ untuned.values) × (length u.selected ≡ 16)
 
-tells_next : (s : Setup) (part : ℕ → Bool) (b : Bool) (m : Music) (e : MidiEvent) (d : Doing) (u : Tuning) → IsHarmless s → AllByRecursion (λ c. part c ≡ true) s.channels
+pub tells_next : (s : Setup) (part : ℕ → Bool) (b : Bool) (m : Music) (e : MidiEvent) (d : Doing) (u : Tuning) → IsHarmless s → AllByRecursion (λ c. part c ≡ true) s.channels
     → is_plain part m d ≡ true → Tells s b u → Tells s (dump_next b d) (tuned_by (dump_behind s b e d) (tuning_after m d (tuned_by (dump_before s b e d) u)))
 tells_next s part false m e (Plays msg) u h parts plain k =
     let v : Tuning = tuned_by (setup_at s e) u in
@@ -147,7 +147,7 @@ tells_next s part b m e (Tunes r) u h parts plain k = absurd cc
 tells_next s part false m e Nothing u h parts plain k = k
 tells_next s part true m e Nothing u h parts plain k = k
 
-tells_run : (s : Setup) (part : ℕ → Bool) (b : Bool) (m : Music) (es : List MidiEvent) (u : Tuning) → IsHarmless s → AllByRecursion (λ c. part c ≡ true) s.channels
+pub tells_run : (s : Setup) (part : ℕ → Bool) (b : Bool) (m : Music) (es : List MidiEvent) (u : Tuning) → IsHarmless s → AllByRecursion (λ c. part c ≡ true) s.channels
     → ArePlain part m es → Tells s b u → Tells s (has_begun b es) (tuning_run (dump_block s) (λ c e. dump_next c (doing e.what)) b m u es)
 tells_run s part b m [] u h parts plain k = k
 tells_run s part b m (e ∷ es) u h parts plain k = tells_run s part (dump_next b (doing e.what)) (step m e) es _ h parts plain.1 (tells_next s part b m e (doing e.what) u h parts plain.0 k)

@@ -8,6 +8,7 @@ pub mod Source
 pub mod PlaysTheSame
 pub mod Faults
 pub mod Dump
+pub mod Dumpable
 pub mod Numbered
 pub mod Need
 pub mod Runs

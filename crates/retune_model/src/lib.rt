@@ -11,4 +11,7 @@ pub use dump::dump_is_playable;
 pub use examples::{
     bend_examples, fault_examples, output_examples, pair_examples, scale_examples, target_examples,
 };
-pub use routes::{blocks_play_the_source, dump_plays_the_source, live_plays_the_source};
+pub use routes::{
+    blocks_play_the_source, dump_plays_the_same, dump_plays_the_source, live_plays_the_source,
+    playable_in_order,
+};

@@ -7,6 +7,16 @@ ghost use Rattle.midi_model.specs.Music.{Music, quiet, play};
 ghost use Rattle.midi_model.specs.Receiver.{after};
 ghost use Rattle.retune_model.specs.Blocks.{Block, output, sources, Fits, all_events};
 ghost use Rattle.retune_model.specs.Routes.{Setup, Live, IsHarmless, IsHarmlessLive, dump_output, live_output, nothing_told};
+ghost use Rattle.mt_base.specs.Valid.{IsValidEvent};
+ghost use Rattle.midi_model.specs.FileText.{MidiFile};
+ghost use Rattle.midi_model.specs.Merged.{merged, IsPlayable};
+ghost use Rattle.midi_model.specs.Order.{AreInOrder};
+ghost use Rattle.retune_model.specs.Table.{Scaling};
+ghost use Rattle.retune_model.specs.Options.{Options};
+ghost use Rattle.retune_model.specs.Faults.{Targets};
+ghost use Rattle.retune_model.specs.PlaysTheSame.{PlaysTheSameMusic, KeepsOtherEvents, KeepsDrums, HasSameShape, PlaysTheSame};
+ghost use Rattle.retune_model.specs.Dump.{dumped};
+ghost use Rattle.retune_model.specs.Dumpable.{IsDumpable};
 ghost use Rattle.retune_model.specs.Plain.{ArePlain, IsTuned, IsTold, Reads, has_begun, told_after};
 
 /// Blocks whose groups aren't heard play the source's music: after each block, and within a block right after its source event.
@@ -25,4 +35,20 @@ pub fn dump_plays_the_source()
 pub fn live_plays_the_source()
     ensures music { (l : Live) (es : List MidiEvent) → IsHarmlessLive l → (after (live_output l es)).music ≡ (after es).music }
     ensures tuning { (l : Live) (value : ℕ → ℕ) (es : List MidiEvent) → IsHarmlessLive l → Reads l value → AllByRecursion (λ c. l.is_retuned c ≡ true) l.setup.channels → ArePlain l.is_retuned quiet es → IsTold l value (told_after l nothing_told es) (after (live_output l es)).tuning }
+{}
+
+/// For a source without a fault and the dump of its table's targets, what the dump route writes plays the same: at every tick the
+/// same notes, each within half a step of 1/16384 semitone and a thousandth of a cent of its source pitch, and right from its
+/// beginning; all other events and kept drums are passed on.
+pub fn dump_plays_the_same()
+    ensures music { (scaling : Scaling) (o : Options) (table : Targets) (bytes : List ℕ) (es : List MidiEvent) → IsDumpable scaling o table bytes es → PlaysTheSameMusic scaling o table es (dumped o bytes es) }
+    ensures others { (scaling : Scaling) (o : Options) (table : Targets) (bytes : List ℕ) (es : List MidiEvent) → IsDumpable scaling o table bytes es → KeepsOtherEvents o es (dumped o bytes es) }
+    ensures drums { (o : Options) (bytes : List ℕ) (es : List MidiEvent) → KeepsDrums o es (dumped o bytes es) }
+    ensures file { (scaling : Scaling) (o : Options) (table : Targets) (bytes : List ℕ) (source out : MidiFile) → HasSameShape source out → merged out ≡ dumped o bytes (merged source) → IsDumpable scaling o table bytes (merged source) → PlaysTheSame scaling o table source out }
+{}
+
+/// The events of a list that can be played come in the order of their ticks.
+pub fn playable_in_order()
+    ensures valid { (tracks : ℕ) (es : List MidiEvent) → IsPlayable tracks es → AllByRecursion IsValidEvent es }
+    ensures ticks { (tracks : ℕ) (es : List MidiEvent) → IsPlayable tracks es → AreInOrder 0 es }
 {}

@@ -10,20 +10,22 @@ use Rattle.scala_lines.specs.Lines.{pieces_of, cut_at, with_byte, lines_of, line
 pub pieces_more : (text : List ℕ) (c : ℕ) (rest : List ℕ) → from_end text ≡ c ∷ rest → pieces_of text ≡ front is_inside text ∷ pieces_of rest
 pieces_more [] c rest e = absurd cc
 pieces_more (b ∷ bs) c rest e = elim (eqb b 10) as (λ t. cond (not t) (behind is_inside bs) (b ∷ bs) ≡ c ∷ rest
-        → cond t ([] ∷ pieces_of bs) (with_byte b (pieces_of bs)) ≡ cond (not t) (b ∷ front is_inside bs) [] ∷ pieces_of rest)
-    [ true ↦ λ h. ap (λ r. [] ∷ pieces_of r) (let e : bs ≡ rest = cc in e)
-    | false ↦ λ h. ap (with_byte b) (pieces_more bs c rest h) ] e
+    → cond t ([] ∷ pieces_of bs) (with_byte b (pieces_of bs)) ≡ cond (not t) (b ∷ front is_inside bs) [] ∷ pieces_of rest) [
+      | true ↦ λ h. ap (λ r. [] ∷ pieces_of r) (let e : bs ≡ rest = cc in e)
+      | false ↦ λ h. ap (with_byte b) (pieces_more bs c rest h)
+    ] e
 
 -- a text without an LF
 pub pieces_end : (text : List ℕ) → 0 < length text → from_end text ≡ [] → pieces_of text ≡ front is_inside text ∷ []
 pieces_end [] some e = absurd (omega (arith, some))
 pieces_end (b ∷ []) some e = elim (eqb b 10) as (λ t. cond (not t) [] (b ∷ []) ≡ []
-        → cond t ([] ∷ []) ((b ∷ []) ∷ []) ≡ cond (not t) (b ∷ []) [] ∷ [])
+    → cond t ([] ∷ []) ((b ∷ []) ∷ []) ≡ cond (not t) (b ∷ []) [] ∷ [])
     [ true ↦ λ h. absurd cc | false ↦ λ h. refl ] e
 pieces_end (b ∷ c ∷ cs) some e = elim (eqb b 10) as (λ t. cond (not t) (behind is_inside (c ∷ cs)) (b ∷ c ∷ cs) ≡ []
-        → cond t ([] ∷ pieces_of (c ∷ cs)) (with_byte b (pieces_of (c ∷ cs))) ≡ cond (not t) (b ∷ front is_inside (c ∷ cs)) [] ∷ [])
-    [ true ↦ λ h. absurd cc
-    | false ↦ λ h. ap (with_byte b) (pieces_end (c ∷ cs) (omega arith) h) ] e
+    → cond t ([] ∷ pieces_of (c ∷ cs)) (with_byte b (pieces_of (c ∷ cs))) ≡ cond (not t) (b ∷ front is_inside (c ∷ cs)) [] ∷ []) [
+      | true ↦ λ h. absurd cc
+      | false ↦ λ h. ap (with_byte b) (pieces_end (c ∷ cs) (omega arith) h)
+    ] e
 
 -- a line that ends with CR
 cr_at : (line : List ℕ) (n : ℕ) → length line ≡ suc n → get_or line n 0 ≡ 13 → take n line ≡ without_cr line

@@ -1,5 +1,5 @@
 ghost use Rattle.std.specs.Prelude.{◌≡◌};
-ghost use Rattle.scala_lines.specs.Characters.{is_blank, is_digit, after_blanks, digits_of, after_digits};
+ghost use Rattle.scala_lines.specs.Characters.{is_blank, is_digit, after_blanks, digits_of, after_digits, Are};
 
 fn is_blank(byte: u8) -> bool
     ensures { result ≡ is_blank byte }
@@ -41,11 +41,12 @@ fn after_digits(bytes: &[u8]) -> &[u8]
     rest
 }
 
-#[tactic(auto, using(crate::proofs::Fronts::take_front, crate::proofs::Fronts::behind_short))]
+#[tactic(auto, using(crate::proofs::Fronts::take_front, crate::proofs::Fronts::front_are, crate::proofs::Fronts::behind_short))]
 /// The digits at the front, and the bytes behind them.
 pub fn split_digits(bytes: &[u8]) -> (&[u8], &[u8])
     ensures digits { result.0.now ≡ digits_of bytes.entry.now }
     ensures rest { result.1.now ≡ after_digits bytes.entry.now }
+    ensures each { Are is_digit result.0.now }
 {
     let rest = after_digits(bytes);
     (&bytes[..bytes.len() - rest.len()], rest)

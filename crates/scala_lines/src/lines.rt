@@ -38,6 +38,7 @@ impl<'a> Lines<'a> {
     pub fn next(&mut self) -> Result<Line<'a>, u32>
         ensures line { IfOk result (λ line. remaining self.old ≡ view line ∷ remaining self.new) }
         ensures none { IfErr result (λ number. remaining self.old ≡ []) }
+        ensures ended { IfErr result (λ number. remaining self.new ≡ []) }
         ensures number { IfErr result (λ number. number ≡ missing self.old) }
         ensures missing { missing self.new ≡ missing self.old }
     {

@@ -2,13 +2,13 @@
 use Rattle.std.proofs.Common.{◌≡◌, ℕ, zero, suc, ◌+◌, ◌<◌, ◌≤◌, ◌⊎◌, List, [], ◌∷◌, ◌++◌, length, Result, Ok, Err, Bool, true, false, cond, refl, sym, ap, subst, ◌∙◌, inl, inr, arith, append-nil}
 use Rattle.std.specs.Prelude.{◌==◌, ◌||◌, ◌&&◌, nat_lt}
 use Rattle.std.proofs.lemmas.Bool.{eqb-true, eqb-false, eq-eqb, ne_eqb, ltb-true, ltb-false, lt-ltb, le-ltb, leb-true, cases_lt, and_parts, or_parts, or_cases, or_from, or_left, or_right}
-use Rattle.scala_lines.specs.Characters.{is_digit, is_blank, front, behind, Are, StopsAt, digits_of, after_digits, after_blanks}
 use Rattle.scala_lines.specs.Numbers.{value}
-use Rattle.scala_lines.proofs.Fronts.{front_behind, front_are, behind_stops, front_at, behind_at}
+use Rattle.scala_lines.specs.Spelling.{HasDigits, HasNoDigit}
+use Rattle.scala_lines.proofs.Spelled.{digits_again, no_digits_again, digits_or_none, long, is_number}
 use Rattle.scl_text.specs.declared.fault.SclKind.{SclKind}
 use Rattle.scl_text.specs.declared.fault.SclKind.TheVariants.{NoDescription, NoCount, BadCount, CountRange, BadPitch, NegativeRatio, ZeroRatio, BigNumber, MissingPitch}
 use Rattle.scl_text.specs.Reading.{count_of, count_digits, count_in_range}
-use Rattle.scl_text.specs.Spelling.{IsNumber, HasDigits, HasNoDigit, IsCount, CountFault}
+use Rattle.scl_text.specs.Spelling.{IsCount, CountFault}
 use Rattle.scl_text.proofs.Results.{chosen}
 
 abbrev Read : Type 0
@@ -19,59 +19,6 @@ ok_is x y e = cc
 
 err_is : (x y : SclKind) → (let r : Read = Err x in r) ≡ Err y → x ≡ y
 err_is x y e = cc
-
--- a digit is no blank
-pub digit_no_blank : (b : ℕ) → is_digit b ≡ true → is_blank b ≡ false
-digit_no_blank b d = let t = and_parts _ _ d in let l = leb-true 48 b t.0 in
-    or_from _ _ (ne_eqb b 32 (λ e. omega (arith, l, e))) (ne_eqb b 9 (λ e. omega (arith, l, e)))
-
--- the digits behind the blanks of a line
-abbrev pub number_of : List ℕ → List ℕ
-number_of line = digits_of (after_blanks line)
-
-parts : (line : List ℕ) → line ≡ front is_blank line ++ (number_of line ++ after_digits (after_blanks line))
-parts line = sym (front_behind is_blank line) ∙ ap (λ r. front is_blank line ++ r) (sym (front_behind is_digit (after_blanks line)))
-
-some_digits : (line digits : List ℕ) → number_of line ≡ digits → 0 < length digits → HasDigits line digits
-some_digits line digits e some =
-    subst (λ (ds : List ℕ). 0 < length ds → HasDigits line ds) e
-    (λ h. (front is_blank line, after_digits (after_blanks line), front_are is_blank line, (front_are is_digit (after_blanks line), h), behind_stops is_digit (after_blanks line), parts line)) some
-
-no_digits : (line : List ℕ) → number_of line ≡ [] → HasNoDigit line
-no_digits line e =
-    let all : after_digits (after_blanks line) ≡ after_blanks line = (let f = front_behind is_digit (after_blanks line) in sym (ap (λ r. r ++ after_digits (after_blanks line)) e) ∙ f) in (
-      front is_blank line,
-      after_blanks line,
-      front_are is_blank line,
-      behind_stops is_blank line,
-      (let P : List ℕ → Type 0 = λ r. StopsAt is_digit r in subst P all (behind_stops is_digit (after_blanks line))),
-      sym (front_behind is_blank line),
-    )
-
-first_blank : (digits rest : List ℕ) → IsNumber digits → StopsAt is_blank (digits ++ rest)
-first_blank [] rest n = absurd (let h = n.1 in omega (arith, h))
-first_blank (d ∷ ds) rest n = digit_no_blank d n.0.0
-
-pub digits_again : (line digits : List ℕ) → HasDigits line digits → number_of line ≡ digits
-digits_again line digits (blanks, rest, b, n, s, e) =
-    ap number_of e ∙ ap digits_of (behind_at is_blank blanks (digits ++ rest) b (first_blank digits rest n)) ∙ front_at is_digit digits rest n.0 s
-
-no_front : (rest : List ℕ) → StopsAt is_digit rest → digits_of rest ≡ []
-no_front [] s = refl
-no_front (b ∷ bs) s = rw s refl
-
-pub no_digits_again : (line : List ℕ) → HasNoDigit line → number_of line ≡ []
-no_digits_again line (blanks, rest, b, s, d, e) = ap number_of e ∙ ap digits_of (behind_at is_blank blanks rest b s) ∙ no_front rest d
-
-pub digits_or_none : (line : List ℕ) → ((digits : List ℕ) × HasDigits line digits) ⊎ HasNoDigit line
-digits_or_none line = pick (number_of line) refl
-  where
-    pick : (digits : List ℕ) → number_of line ≡ digits → ((ds : List ℕ) × HasDigits line ds) ⊎ HasNoDigit line
-    pick [] e = inr (no_digits line e)
-    pick (d ∷ ds) e = inl (d ∷ ds, some_digits line (d ∷ ds) e (omega arith))
-
-long : (digits : List ℕ) → 0 < length digits → (length digits == 0) ≡ false
-long digits some = ne_eqb (length digits) 0 (λ e. omega (arith, some, e))
 
 in_range : (n : ℕ) → 1 ≤ n → n ≤ 4096 → count_in_range n ≡ Ok n
 in_range n some few = rw (or_from (n == 0) (nat_lt 4096 n) (ne_eqb n 0 (λ e. omega (arith, some, e))) (le-ltb 4096 n few)) refl
@@ -87,14 +34,14 @@ ranged (suc n) = elim (cases_lt 4096 (suc n)) [ inl h ↦ inr (inr h) | inr h �
 
 pub count_again : (line : List ℕ) (n : ℕ) → IsCount line n → count_of line ≡ Ok n
 unfolding count_of
-count_again line n (digits, (blanks, rest, b, d, s, e), is, some, few) =
-    ap count_digits (digits_again line digits (blanks, rest, b, d, s, e)) ∙ (rw (long digits d.1, sym is) (in_range n some few))
+count_again line n (digits, has, is, some, few) =
+    ap count_digits (digits_again line digits has) ∙ (rw (long digits (is_number line digits has).1, sym is) (in_range n some few))
 
 pub count_fault_again : (line : List ℕ) (kind : SclKind) → CountFault line kind → count_of line ≡ Err kind
 unfolding count_of
 count_fault_again line BadCount h = ap count_digits (no_digits_again line h)
-count_fault_again line CountRange (digits, (blanks, rest, b, d, s, e), out) =
-    ap count_digits (digits_again line digits (blanks, rest, b, d, s, e)) ∙ (rw (long digits d.1) (out_of_range (value digits) out))
+count_fault_again line CountRange (digits, has, out) =
+    ap count_digits (digits_again line digits has) ∙ (rw (long digits (is_number line digits has).1) (out_of_range (value digits) out))
 count_fault_again line NoDescription h = absurd h
 count_fault_again line NoCount h = absurd h
 count_fault_again line BadPitch h = absurd h

@@ -5,7 +5,8 @@ use Rattle.std.proofs.lemmas.Bool.{eqb-true, eqb-false, eq-eqb, ne_eqb, leb-true
 use Rattle.scala_lines.specs.Characters.{is_blank, is_digit, front, behind, Are, StopsAt, digits_of, after_digits, after_blanks}
 use Rattle.scala_lines.proofs.Fronts.{front_behind, front_are, behind_stops, front_at, behind_at}
 use Rattle.scl_text.specs.Pitch.{Form, InCents, AsRatio, Alone, cents_form, ratio_form, alone_form, form_behind, unsigned_form, signed_form, form_of}
-use Rattle.scl_text.specs.Spelling.{sign, IsNumber, goes_on, IsForm, Stands}
+use Rattle.scala_lines.specs.Spelling.{IsNumber}
+use Rattle.scl_text.specs.Spelling.{sign, goes_on, IsForm, Stands}
 use Rattle.scl_text.proofs.Results.{chosen}
 
 some_is : {A : Type 0} (x y : A) → (let o : Option A = Some x in o) ≡ Some y → x ≡ y

@@ -4,6 +4,7 @@ use Rattle.std.specs.Prelude.{ℕ, ◌+◌, ◌*◌, ◌≡◌, ◌<◌, ◌≤�
 use Rattle.scala_lines.specs.Characters.{is_blank, is_digit, Are, StopsAt}
 use Rattle.scala_lines.specs.Numbers.{value, billionths}
 use Rattle.scala_lines.specs.Lines.{Numbered, content}
+use Rattle.scala_lines.specs.Spelling.{IsNumber, HasDigits, HasNoDigit}
 use Rattle.scl_text.specs.declared.entry.Entry.{Entry}
 use Rattle.scl_text.specs.declared.entry.Entry.TheVariants.{Ratio, Cents}
 use Rattle.scl_text.specs.declared.fault.SclKind.{SclKind}
@@ -16,10 +17,6 @@ use Rattle.scl_text.specs.Ranges.{IsRatio}
 abbrev pub sign : Bool → List ℕ
 sign true = 45 ∷ []
 sign false = []
-
--- one or more digits
-abbrev pub IsNumber : List ℕ → Type 0
-IsNumber digits = Are is_digit digits × (0 < length digits)
 
 -- a byte with which a number goes on, or turns into another form: a digit, a period, a slash
 abbrev pub goes_on : ℕ → Bool
@@ -77,14 +74,7 @@ FormFault (Alone false num) kind = RatioFault (value num) 1 kind
 abbrev pub PitchFault : List ℕ → SclKind → Type 0
 PitchFault line kind = ((kind ≡ BadPitch) × ((form : Form) → Stands line form → ⊥)) ⊎ ((form : Form) × Stands line form × FormFault form kind)
 
--- a count line is blanks, digits, anything
-abbrev pub HasDigits : List ℕ → List ℕ → Type 0
-HasDigits line digits = (blanks rest : List ℕ) × Are is_blank blanks × IsNumber digits × StopsAt is_digit rest × (line ≡ blanks ++ (digits ++ rest))
-
--- no digit stands behind the blanks
-abbrev pub HasNoDigit : List ℕ → Type 0
-HasNoDigit line = (blanks rest : List ℕ) × Are is_blank blanks × StopsAt is_blank rest × StopsAt is_digit rest × (line ≡ blanks ++ rest)
-
+-- a count line is blanks, a number from 1 to 4,096, anything
 abbrev pub IsCount : List ℕ → ℕ → Type 0
 IsCount line n = (digits : List ℕ) × HasDigits line digits × (n ≡ value digits) × (1 ≤ n) × (n ≤ 4096)
 

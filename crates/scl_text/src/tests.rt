@@ -2,6 +2,7 @@ use super::*;
 use std::test::Fail;
 
 /// What a text is read as.
+#[derive(Clone, Copy)]
 enum Wanted<'a> {
     Entries(&'a [Entry]),
     At(u32, u8),

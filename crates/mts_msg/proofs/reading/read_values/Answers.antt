@@ -1,5 +1,5 @@
-use Rattle.std.proofs.Common.{arith, rules, length-set}
-use Rattle.mts_msg.proofs.Keys.{keys_next, keys_end}
+use Rattle.std.proofs.Common.{arith, rules}
+use Rattle.mts_msg.proofs.Keys.{keys_next}
 use Rattle.mts_msg.proofs.reading.read_values.Goals as goal
 
 pub loop-key-preserved : goal.loop-key-preserved

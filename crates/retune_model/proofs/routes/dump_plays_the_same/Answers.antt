@@ -1,0 +1,16 @@
+use Rattle.retune_model.proofs.DumpSame.{dump_plays_the_same}
+use Rattle.retune_model.proofs.Others.{others_kept, drums_kept}
+use Rattle.retune_model.proofs.DumpFile.{dump_file}
+use Rattle.retune_model.proofs.routes.dump_plays_the_same.Goals as goal
+
+pub returns-clause-music : goal.returns-clause-music
+returns-clause-music c = dump_plays_the_same
+
+pub returns-clause-others : goal.returns-clause-others
+returns-clause-others c = others_kept
+
+pub returns-clause-drums : goal.returns-clause-drums
+returns-clause-drums c = drums_kept
+
+pub returns-clause-file : goal.returns-clause-file
+returns-clause-file c = dump_file
