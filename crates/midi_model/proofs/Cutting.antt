@@ -1,5 +1,5 @@
 -- A file that is cut off before its last track chunk ends.
-use Rattle.std.proofs.Common.{◌≡◌, ℕ, zero, suc, ◌+◌, ◌-◌, ◌<◌, ◌≤◌, ◌⊎◌, List, [], ◌∷◌, ◌++◌, length, take, drop, Result, Ok, Err, Bool, true, false, not, cond, ltb, eqb, refl, sym, ap, subst, ◌∙◌, inl, inr, arith, append_assoc}
+use Rattle.std.proofs.Common.{◌≡◌, ℕ, suc, ◌+◌, ◌-◌, ◌<◌, ◌≤◌, ◌⊎◌, List, [], ◌∷◌, ◌++◌, length, take, drop, Result, Ok, Err, true, ltb, refl, sym, ap, subst, ◌∙◌, inl, inr, arith, append_assoc}
 use Rattle.std.specs.Int.{w32}
 use Rattle.std.proofs.lemmas.Bool.{lt-ltb, le-ltb, ne_eqb, cases_lt}
 use Rattle.std.proofs.lemmas.List.{length-append, length-drop, length-take, drop_at, take_at, take-append-drop, take-append-le, drop-append-le}
@@ -7,7 +7,7 @@ use Rattle.midi_model.specs.declared.fault.Stop.{Stop}
 use Rattle.midi_model.specs.declared.fault.SmfKind.{SmfKind}
 use Rattle.midi_model.specs.declared.fault.SmfKind.TheVariants.{NotMidi, Truncated, MissingTrack}
 use Rattle.mt_base.specs.Midi.{Timed}
-use Rattle.midi_model.specs.Reading.{◌>>=◌, stop}
+use Rattle.midi_model.specs.Reading.{stop}
 use Rattle.midi_model.specs.FileText.{MidiFile, number, header_at, chunk_at, next_content, track_at, tracks_at, all_at, file_at, from_start}
 use Rattle.midi_model.specs.Spelling.{IsChunk, IsFields, AreSkipped, AreTracks, Spells}
 use Rattle.midi_model.specs.Faults.{FirstFault, CutFault}

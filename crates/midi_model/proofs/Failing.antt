@@ -1,17 +1,15 @@
 -- What has a first fault by the fronts of the bytes is read with that fault, and the other way round: events.
-use Rattle.std.proofs.Common.{◌≡◌, ℕ, zero, suc, ◌+◌, ◌-◌, ◌*◌, ◌^◌, ◌<◌, ◌≤◌, ◌⊎◌, List, [], ◌∷◌, ◌++◌, length, take, drop, Result, Ok, Err, Option, Some, None, Bool, true, false, cond, ltb, eqb, refl, sym, ap, subst, ◌∙◌, inl, inr, arith, append_assoc}
+use Rattle.std.proofs.Common.{◌≡◌, ℕ, zero, suc, ◌+◌, ◌-◌, ◌*◌, ◌<◌, ◌≤◌, ◌⊎◌, List, [], ◌∷◌, ◌++◌, length, take, drop, Result, Ok, Err, Option, Some, Bool, true, false, cond, ltb, eqb, refl, sym, ap, subst, ◌∙◌, inl, inr, arith, append_assoc}
 use Rattle.std.specs.Prelude.{◌&&◌, ◌||◌}
 use Rattle.std.proofs.lemmas.Bool.{ltb-true, ltb-false, lt-ltb, le-ltb, eqb-true, eqb-false, eq-eqb, ne_eqb, cases_Bool, cases_eq, and_left, and_right}
-use Rattle.std.proofs.lemmas.List.{length-append, append-nil}
 use Rattle.midi_model.specs.declared.fault.Stop.{Stop}
 use Rattle.midi_model.specs.declared.fault.SmfKind.{SmfKind}
 use Rattle.midi_model.specs.declared.fault.SmfKind.TheVariants.{Truncated, BadDelta, NoStatus, BadStatus, BadData, MissingEnd, TrackTooLong}
-use Rattle.mt_base.specs.declared.event.Msg.{Msg}
 use Rattle.mt_base.specs.Midi.{MidiWhat, Says, SysexOf, MetaOf, Timed, is_end}
-use Rattle.midi_model.specs.Reading.{◌>>=◌, stop, quantity_from, quantity_at, data_at, message_at, is_short, short_msg, long_msg, bytes_at, content_at, meta_at, body_at, event_at, IsRunning, IsLong, Run, failed, last, in_front, continued, track_from, rest_of_track, track_in}
-use Rattle.midi_model.specs.Spelling.{IsQuantity, IsEvent}
+use Rattle.midi_model.specs.Reading.{◌>>=◌, stop, quantity_from, quantity_at, data_at, message_at, is_short, short_msg, long_msg, bytes_at, content_at, meta_at, body_at, event_at, IsRunning, IsLong, Run, last, in_front, continued, track_from, rest_of_track, track_in}
+use Rattle.midi_model.specs.Spelling.{IsEvent}
 use Rattle.midi_model.specs.Faults.{DigitsFault, QuantityFault, DataFault, MessageFault, BytesFault, ContentFault, MetaFault, BodyFault, EventFault, AreEvents, TrackFault}
-use Rattle.midi_model.proofs.Laws.{bind_ok, chosen, guarded, ok_is, done, quantity_takes, event_takes, none_runs, shorter}
+use Rattle.midi_model.proofs.Laws.{chosen, ok_is, done, quantity_takes, event_takes, none_runs, shorter}
 use Rattle.midi_model.proofs.Again.{quantity_again, event_again, not_short, running_after}
 use Rattle.midi_model.proofs.Runs.{goes_on, fails, nothing_left}
 

@@ -1,16 +1,16 @@
 -- The same of chunks, the header and the file.
-use Rattle.std.proofs.Common.{◌≡◌, ℕ, zero, suc, ◌+◌, ◌-◌, ◌<◌, ◌≤◌, ◌⊎◌, List, [], ◌∷◌, ◌++◌, length, take, drop, map, Result, Ok, Err, Option, Some, None, Bool, true, false, not, cond, ltb, eqb, refl, sym, ap, subst, ◌∙◌, inl, inr, arith, append_assoc}
+use Rattle.std.proofs.Common.{◌≡◌, ℕ, zero, suc, ◌+◌, ◌-◌, ◌<◌, ◌≤◌, ◌⊎◌, List, [], ◌∷◌, ◌++◌, length, take, drop, Result, Ok, Err, Option, Some, None, Bool, true, false, not, ltb, eqb, refl, sym, ap, subst, ◌∙◌, inl, inr, arith, append_assoc}
 use Rattle.std.specs.Prelude.{◌&&◌, ◌||◌}
 use Rattle.std.specs.Int.{w16, w32}
 use Rattle.std.proofs.lemmas.Bool.{ltb-true, ltb-false, lt-ltb, le-ltb, eqb-true, eqb-false, eq-eqb, ne_eqb, cases_Bool, cases_eq, and_left, and_right, or_from, not-false}
-use Rattle.std.proofs.lemmas.List.{length-append, length-drop, length-take, drop_at, take_at, take-append-drop, length-map}
+use Rattle.std.proofs.lemmas.List.{length-append, length-drop, drop_at, take-append-drop}
 use Rattle.midi_model.specs.declared.fault.Stop.{Stop}
 use Rattle.midi_model.specs.declared.fault.SmfKind.{SmfKind}
 use Rattle.midi_model.specs.declared.fault.SmfKind.TheVariants.{NotMidi, BadHeader, Format2, FormatNumber, Truncated, MissingTrack, TooManyTracks}
 use Rattle.mt_base.specs.Midi.{Timed}
 use Rattle.midi_model.specs.Reading.{◌>>=◌, stop, track_in}
-use Rattle.midi_model.specs.FileText.{Header, Chunk, MidiFile, number, fields_at, header_at, chunk_at, content_from, next_content, sound, track_at, tracks_at, all_at, file_at, from_start, made, events_of}
-use Rattle.midi_model.specs.Spelling.{IsNumber, IsChunk, IsFields, AreSkipped, AreTracks, Spells}
+use Rattle.midi_model.specs.FileText.{Chunk, MidiFile, number, fields_at, header_at, chunk_at, content_from, next_content, sound, track_at, tracks_at, all_at, file_at, from_start, events_of}
+use Rattle.midi_model.specs.Spelling.{IsChunk, AreTracks, Spells}
 use Rattle.midi_model.specs.Faults.{BytesFault, TrackFault, IsHead, ChunkFault, NextFault, TracksFault, FieldsFault, HeaderFault, FileFault, FirstFault}
 use Rattle.midi_model.proofs.Laws.{chosen, none_runs}
 use Rattle.midi_model.proofs.Chunks.{number_again, number_takes, chunk_takes, chunk_again, content_takes, skipped_again, track_at_takes, track_at_again}

@@ -12,6 +12,8 @@ pub mod Playing
 pub mod Failing
 pub mod Faulting
 pub mod Cutting
+pub mod Longest
+pub mod Ending
 pub mod Same
 pub mod Steady
 pub mod Timely

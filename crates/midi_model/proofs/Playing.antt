@@ -1,14 +1,14 @@
 -- The tracks that bytes spell can be played.
-use Rattle.std.proofs.Common.{◌≡◌, ℕ, zero, suc, ◌+◌, ◌-◌, ◌<◌, ◌≤◌, ◌^◌, ◌⊎◌, List, [], ◌∷◌, ◌++◌, length, map, Bool, true, false, cond, ltb, refl, sym, ap, subst, ◌∙◌, inl, inr, arith, length-append}
+use Rattle.std.proofs.Common.{◌≡◌, ℕ, suc, ◌-◌, ◌<◌, ◌≤◌, ◌^◌, ◌⊎◌, List, [], ◌∷◌, ◌++◌, length, map, Bool, true, false, cond, ltb, refl, sym, ap, subst, inl, inr, arith, length-append}
 use Rattle.std.specs.List.{AllByRecursion}
 use Rattle.mt_base.specs.declared.event.Msg.{Msg}
-use Rattle.mt_base.specs.Midi.{Timed, MidiWhat, Says, SysexOf, MetaOf, placed, is_end}
+use Rattle.mt_base.specs.Midi.{Timed, MidiWhat, Says, SysexOf, MetaOf, placed}
 use Rattle.mt_base.specs.Valid.{IsValidMsg, IsValidWhat, IsValidEvent}
-use Rattle.std.proofs.lemmas.Bool.{ltb-true, ltb-false, cases_order}
+use Rattle.std.proofs.lemmas.Bool.{ltb-true, cases_order}
 use Rattle.midi_model.specs.Reading.{long_msg, short_msg, IsLong}
 use Rattle.midi_model.specs.FileText.{MidiFile}
 use Rattle.midi_model.specs.Spelling.{IsMessage, IsBody, IsEvent, IsTrack, IsTrackChunk, AreTracks, Spells}
-use Rattle.midi_model.specs.Merged.{precedes, InOrder, EndsOnce, IsTrackOf, AreTracksOf, IsPlayable, merged}
+use Rattle.midi_model.specs.Merged.{InOrder, EndsOnce, IsTrackOf, AreTracksOf, IsPlayable, merged}
 use Rattle.midi_model.proofs.Merging.{is_before, each_weaker, is_playable}
 
 valid_cond : (b : Bool) (m n : Msg) → (b ≡ true → IsValidMsg m) → (b ≡ false → IsValidMsg n) → IsValidMsg (cond b m n)

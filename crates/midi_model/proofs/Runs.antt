@@ -6,7 +6,7 @@ use Rattle.midi_model.specs.declared.fault.SmfKind.TheVariants.{MissingEnd}
 use Rattle.mt_base.specs.Midi.{Timed, is_end, placed}
 use Rattle.midi_model.specs.Merged.{first_tick}
 use Rattle.midi_model.specs.Reading.{Run, failed, last, in_front, continued, track_from, rest_of_track, event_at, body_at, quantity_at, quantity_from, IsRunning}
-use Rattle.midi_model.proofs.Laws.{shorter, event_takes, bind_ok, guarded, ok_is, done}
+use Rattle.midi_model.proofs.Laws.{shorter, event_takes, bind_ok, guarded, ok_is}
 
 -- which continuation is taken doesn't matter where they agree on what was read
 agree : (f g : ℕ → ℕ → List ℕ → Run) (r : Result (Timed × ℕ × List ℕ) Stop) → ((x : Timed × ℕ × List ℕ) → r ≡ Ok x → f x.1 x.0.tick x.2 ≡ g x.1 x.0.tick x.2) → continued f r ≡ continued g r

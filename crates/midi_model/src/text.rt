@@ -1,6 +1,7 @@
-ghost use Rattle.std.specs.Prelude.{◌≡◌, ◌<◌, ◌^◌, ◌⊎◌, ℕ, ◌+◌, List, length, take, Ok, Err};
+ghost use Rattle.std.specs.Prelude.{◌≡◌, ◌<◌, ◌≤◌, ◌^◌, ◌++◌, ◌⊎◌, ℕ, ◌+◌, List, length, take, Ok, Err};
+ghost use Rattle.mt_base.specs.Midi.{Timed};
 ghost use Rattle.midi_model.specs.declared.fault.SmfKind.{SmfKind};
-ghost use Rattle.midi_model.specs.Faults.{FirstFault, CutFault};
+ghost use Rattle.midi_model.specs.Faults.{AreEvents, TrackFault, FirstFault, CutFault};
 ghost use Rattle.midi_model.specs.FileText.{MidiFile, file_at};
 ghost use Rattle.midi_model.specs.Merged.{merged, AreTracksOf, IsPlayable};
 ghost use Rattle.midi_model.specs.Spelling.{Spells};
@@ -13,6 +14,9 @@ pub fn file_laws()
     // The first fault is what is wrong after the longest front that breaks no rule.
     ensures first { (bytes : List ℕ) (offset : ℕ) (kind : SmfKind) → file_at bytes ≡ Err (offset, kind) → FirstFault bytes offset kind }
     ensures read_first { (bytes : List ℕ) (offset : ℕ) (kind : SmfKind) → FirstFault bytes offset kind → file_at bytes ≡ Err (offset, kind) }
+    ensures offset { (bytes : List ℕ) (offset : ℕ) (kind : SmfKind) (f : FirstFault bytes offset kind) → (front : List ℕ) × (bytes ≡ front ++ f.back) × (length front ≡ offset) }
+    // No front of whole events of a track is longer than the one before its fault.
+    ensures longest { (content back : List ℕ) (kind : SmfKind) (t : TrackFault 0 0 content back kind) (front rest : List ℕ) (events : List Timed) (running tick : ℕ) → AreEvents 0 0 front events running tick → content ≡ front ++ rest → length front ≤ length t.front }
     ensures one_fault { (bytes : List ℕ) (at : ℕ) (kind : SmfKind) (at2 : ℕ) (kind2 : SmfKind) → FirstFault bytes at kind → FirstFault bytes at2 kind2 → (at ≡ at2) × (kind ≡ kind2) }
     // Bytes spell a file, or they have a first fault and spell none.
     ensures either { (bytes : List ℕ) → ((file : MidiFile) × Spells bytes file) ⊎ ((offset : ℕ) × (kind : SmfKind) × FirstFault bytes offset kind) }

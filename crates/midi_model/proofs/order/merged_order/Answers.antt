@@ -1,4 +1,3 @@
-use Rattle.std.proofs.Common.{◌≡◌}
 use Rattle.midi_model.specs.Merged.{one_by_one}
 use Rattle.midi_model.proofs.Merging.{sorted_in_order, sorted_permutes, sorted_length, of_track_merged, takes_first, is_playable}
 use Rattle.midi_model.proofs.order.merged_order.Goals as goal

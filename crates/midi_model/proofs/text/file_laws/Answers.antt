@@ -1,7 +1,9 @@
-use Rattle.std.proofs.Common.{◌≡◌}
 use Rattle.midi_model.proofs.Files.{file_takes, file_again, one_file}
 use Rattle.midi_model.proofs.Faulting.{fault_takes, fault_again, one_fault, file_or_fault, never_both}
 use Rattle.midi_model.proofs.Cutting.{cut_off}
+use Rattle.midi_model.proofs.Longest.{longest}
+use Rattle.midi_model.proofs.Ending.{offset_is}
+use Rattle.midi_model.proofs.Laws.{none_runs}
 use Rattle.midi_model.proofs.Playing.{spelled_tracks, spelled_playable}
 use Rattle.midi_model.proofs.text.file_laws.Goals as goal
 
@@ -37,3 +39,9 @@ returns-clause-playable c bytes file few is = spelled_playable bytes file few is
 
 pub returns-clause-cut : goal.returns-clause-cut
 returns-clause-cut c bytes file is n lt = cut_off bytes file is n lt
+
+pub returns-clause-longest : goal.returns-clause-longest
+returns-clause-longest c content back kind t front rest events running tick are parts = longest 0 0 content back kind t front rest events running tick none_runs are parts
+
+pub returns-clause-offset : goal.returns-clause-offset
+returns-clause-offset c bytes offset kind f = offset_is bytes offset kind f

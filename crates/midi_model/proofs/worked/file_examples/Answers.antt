@@ -78,3 +78,11 @@ returns-clause-no_content c = refl
 pub returns-clause-no_end : goal.returns-clause-no_end
 unfolding file_at all_at tracks_at track_at next_content content_from chunk_at header_at fields_at rest_of_track track_from event_at body_at meta_at bytes_at content_at message_at data_at quantity_at quantity_from
 returns-clause-no_end c = refl
+
+pub returns-clause-skipped_chunks : goal.returns-clause-skipped_chunks
+unfolding file_at all_at tracks_at track_at next_content content_from chunk_at header_at fields_at rest_of_track track_from event_at body_at meta_at bytes_at content_at message_at data_at quantity_at quantity_from
+returns-clause-skipped_chunks c = refl
+
+pub returns-clause-cut_by_sysex : goal.returns-clause-cut_by_sysex
+unfolding file_at all_at tracks_at track_at next_content content_from chunk_at header_at fields_at rest_of_track track_from event_at body_at meta_at bytes_at content_at message_at data_at quantity_at quantity_from
+returns-clause-cut_by_sysex c = refl

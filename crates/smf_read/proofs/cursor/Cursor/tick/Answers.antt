@@ -1,4 +1,4 @@
-use Rattle.std.proofs.Common.{◌≡◌, ◌<◌, length, ap, sym, map, inl, inr, arith}
+use Rattle.std.proofs.Common.{◌<◌, length, ap, sym, map, inl, inr, arith}
 use Rattle.std.proofs.lemmas.Bool.{cases_eq}
 use Rattle.mt_base.specs.Midi.{placed}
 use Rattle.midi_model.specs.Merged.{first_tick}
