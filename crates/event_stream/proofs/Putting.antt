@@ -11,7 +11,7 @@ use Rattle.midi_model.specs.Merged.{precedes, merged_tracks, InOrder, EndsOnce, 
 use Rattle.midi_model.specs.Writing.{Written, written, with_event, last_tick, is_ended}
 use Rattle.midi_model.proofs.Merging.{before, each_weaker}
 use Rattle.midi_model.proofs.Writes.{written-append}
-use Rattle.event_stream.specs.Distributed.{timed, events_in, distributed_from, distributed, MayPut}
+use Rattle.event_stream.specs.Distributed.{timed, events_in, distributed_from, distributed, MayPut, all_bytes}
 use Rattle.event_stream.proofs.Taking.{no_earlier}
 use Rattle.event_stream.proofs.Dealing.{length_dealt, get_dealt, with_last, is_in, merged_again, each_picked}
 
@@ -94,3 +94,22 @@ may_put n es e more h =
           (is_open false (of_track e.track es) refl (not_ended (of_track e.track es) e (of_track e.track more) (subst EndsOnce (parted e.track es e more refl) (h.ended e.track low))));
       in_order = subst (λ (w : Written). w.tick ≤ e.tick) (sym text) (last_of 0 e.tick (of_track e.track es) (omega arith) (each_picked _ _ es (all_before es e more h.in_order)));
     }
+
+-- ---- how many bytes there are
+
+pub no_bytes : (m : ℕ) (t : Written) → length t.bytes ≡ 0 → all_bytes (replicate m t) ≡ 0
+no_bytes zero t h = refl
+no_bytes (suc m) t h = omega (arith, h, no_bytes m t h)
+
+pub bytes_set : (ts : List Written) (i more : ℕ) (t d : Written) → length t.bytes ≤ length (get_or ts i d).bytes + more → i < length ts → all_bytes (set ts i t) ≤ all_bytes ts + more
+bytes_set [] i more t d h lt = absurd (omega (arith, lt))
+bytes_set (x ∷ ts) zero more t d h lt = omega (arith, h)
+bytes_set (x ∷ ts) (suc i) more t d h lt = omega (arith, bytes_set ts i more t d h (omega (arith, lt)))
+
+each_short : (ts : List Written) (i : ℕ) (d : Written) → i < length ts → length (get_or ts i d).bytes ≤ all_bytes ts
+each_short [] i d lt = absurd (omega (arith, lt))
+each_short (x ∷ ts) zero d lt = omega arith
+each_short (x ∷ ts) (suc i) d lt = omega (arith, each_short ts i d (omega (arith, lt)))
+
+pub all_short : (ts : List Written) → All (λ (t : Written). length t.bytes ≤ all_bytes ts) ts
+all_short ts i d lt = each_short ts i d lt

@@ -1,5 +1,5 @@
 -- A list of events, dealt out to its tracks.
-use Rattle.std.specs.Prelude.{◌≡◌, ◌<◌, ◌≤◌, ℕ, zero, suc, List, [], ◌∷◌, map, length, get_or, false}
+use Rattle.std.specs.Prelude.{◌≡◌, ◌<◌, ◌≤◌, ◌+◌, ℕ, zero, suc, List, [], ◌∷◌, map, length, get_or, false}
 use Rattle.mt_base.specs.Midi.{Timed, MidiEvent}
 use Rattle.mt_base.specs.Valid.{IsValidEvent}
 use Rattle.midi_model.specs.Merged.{of_track}
@@ -28,3 +28,8 @@ pub record MayPut (texts : List Written) (e : MidiEvent) : Type 0 where
   pub exists : e.track < length texts
   pub open_still : (get_or texts e.track (written [])).ended ≡ false
   pub in_order : (get_or texts e.track (written [])).tick ≤ e.tick
+
+-- how many bytes such tracks have together
+abbrev pub all_bytes : List Written → ℕ
+all_bytes [] = 0
+all_bytes (t ∷ ts) = length t.bytes + all_bytes ts

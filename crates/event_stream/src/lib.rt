@@ -14,3 +14,6 @@ pub use list::ListStream;
 pub use merge::Merge;
 pub use stream::EventStream;
 pub use tracks::TrackSet;
+
+#[cfg(test)]
+mod tests;

@@ -1,9 +1,9 @@
-ghost use Rattle.std.specs.Prelude.{◌≡◌, ◌<◌, ◌≤◌, ℕ, List, [], ◌∷◌, ◌++◌, map, get_or, slice_set, length, true, false, All, IfOk, OnOk, OnErr};
+ghost use Rattle.std.specs.Prelude.{◌≡◌, ◌<◌, ◌≤◌, ◌+◌, ℕ, List, [], ◌∷◌, ◌++◌, map, get_or, slice_set, length, true, false, All, IfOk, OnOk, OnErr};
 ghost use Rattle.mt_base.specs.Midi.{MidiEvent, view};
 ghost use Rattle.mt_base.specs.Valid.{IsValidEvent};
 ghost use Rattle.midi_model.specs.Merged.{merged_tracks, IsPlayable};
-ghost use Rattle.midi_model.specs.Writing.{Written, written, with_event};
-ghost use Rattle.event_stream.specs.Distributed.{timed, distributed};
+ghost use Rattle.midi_model.specs.Writing.{Written, written, with_event, most_bytes};
+ghost use Rattle.event_stream.specs.Distributed.{timed, distributed, all_bytes};
 
 use mt_base::{Event, Memory};
 use smf_write::TrackText;
@@ -32,6 +32,7 @@ impl TrackSet {
     pub fn new(alloc: Global, tracks: u16) -> Result<TrackSet, Memory>
         ensures stands { IfOk result (λ set. set ≡ map written (distributed tracks [])) }
         ensures count { IfOk result (λ set. length set ≡ tracks) }
+        ensures empty { IfOk result (λ set. all_bytes set ≡ 0) }
     {
         let mut texts = Vec::new(alloc);
         for _ in 0..tracks {
@@ -49,6 +50,7 @@ impl TrackSet {
         requires order { (get_or self.old event.now.track (written [])).tick ≤ event.now.tick }
         ensures appended { OnOk result (self.new ≡ slice_set self.old event.now.track (with_event (get_or self.old event.now.track (written [])) (timed (view event.now)))) }
         ensures stands { (tracks : ℕ) (es : List MidiEvent) → self.old ≡ map written (distributed tracks es) → OnOk result (self.new ≡ map written (distributed tracks (es ++ view event.now ∷ []))) }
+        ensures grows { all_bytes self.new ≤ all_bytes self.old + most_bytes (view event.now).what }
         ensures unchanged { OnErr result (self.new ≡ self.old) }
     {
         self.tracks[event.track as usize].put(event.tick, &event.what)
@@ -59,6 +61,7 @@ impl TrackSet {
     pub fn into_tracks(self) -> Vec<TrackText>
         ensures tracks { result.items ≡ self }
         ensures ended { (tracks : ℕ) (es : List MidiEvent) → self ≡ map written (distributed tracks es) → IsPlayable tracks es → All (λ (t : Written). t.ended ≡ true) result.items }
+        ensures short { All (λ (t : Written). length t.bytes ≤ all_bytes self) result.items }
         ensures merged_again { (tracks : ℕ) (es : List MidiEvent) → IsPlayable tracks es → merged_tracks (distributed tracks es) ≡ es }
     {
         self.tracks
