@@ -4,3 +4,4 @@ pub mod Lines
 pub mod Source
 pub mod Survey
 pub mod Putting
+pub mod Answers

@@ -4,6 +4,7 @@
 mod contents;
 mod dump;
 mod lines;
+mod making;
 mod outcome;
 mod retune;
 mod source;
