@@ -51,7 +51,7 @@ unfolding rest_of_track
 track_count bytes = from_count _ 0 0 bytes none_runs
 
 -- a track chunk is longer than its content
-content_within : (front content : List ℕ) → IsTrackChunk front content → length content ≤ length front
+pub content_within : (front content : List ℕ) → IsTrackChunk front content → length content ≤ length front
 content_within front content is = omega (
   arith,
   ap length is.parts,

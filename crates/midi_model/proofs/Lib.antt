@@ -25,3 +25,4 @@ pub mod Equal
 pub mod Played
 pub mod Writes
 pub mod Spelt
+pub mod Sizes
