@@ -3,4 +3,5 @@ pub mod Command
 pub mod Lines
 pub mod Source
 pub mod Survey
+pub mod Chosen
 pub mod Putting
