@@ -1,3 +1,5 @@
 pub mod Puts
 pub mod Distributes
 pub mod Lengths
+pub mod DumpOutput
+pub mod SurveyFacts

@@ -3,6 +3,7 @@
 
 mod contents;
 mod dump;
+mod laws;
 mod lines;
 mod making;
 mod outcome;
