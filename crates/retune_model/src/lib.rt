@@ -13,6 +13,6 @@ pub use examples::{
     zone_examples,
 };
 pub use routes::{
-    blocks_play_the_source, dump_plays_the_same, dump_plays_the_source, live_plays_the_source,
-    playable_in_order,
+    blocks_play_the_source, dump_plays_the_same, dump_plays_the_source, live_plays_the_same,
+    live_plays_the_source, playable_in_order,
 };
