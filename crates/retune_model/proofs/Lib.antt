@@ -23,3 +23,4 @@ pub mod Instances
 pub mod LiveNotes
 pub mod LiveSame
 pub mod LiveFile
+pub mod Positions

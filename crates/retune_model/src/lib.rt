@@ -6,7 +6,7 @@ mod dump;
 mod examples;
 mod routes;
 
-pub use channels::{need_laws, run_laws};
+pub use channels::{need_laws, position_laws, run_laws};
 pub use dump::dump_is_playable;
 pub use examples::{
     bend_examples, fault_examples, output_examples, pair_examples, scale_examples, target_examples,
