@@ -14,6 +14,7 @@ abbrev pub has_note_on : (ℕ → Bool) → List MidiEvent → Bool
 has_note_on part [] = false
 has_note_on part (e ∷ es) = begins_note part e.what || has_note_on part es
 
+-- so many channels from one on
 abbrev pub from_up : ℕ → ℕ → List ℕ
 from_up c zero = []
 from_up c (suc n) = c ∷ from_up (c + 1) n
