@@ -4,9 +4,8 @@ use Rattle.std.specs.Prelude.{◌==◌}
 use Rattle.std.specs.List.{AllByRecursion}
 use Rattle.std.proofs.lemmas.Bool.{eqb-true, ltb-true}
 use Rattle.mt_base.specs.Midi.{MidiEvent}
-use Rattle.mt_base.specs.Valid.{IsValidEvent}
 use Rattle.midi_model.specs.FileText.{MidiFile}
-use Rattle.midi_model.specs.Merged.{merged, precedes, InOrder, IsPlayable}
+use Rattle.midi_model.specs.Merged.{merged, precedes, InOrder}
 use Rattle.midi_model.specs.Order.{AreInOrder}
 use Rattle.retune_model.specs.Table.{Scaling}
 use Rattle.retune_model.specs.Options.{Options}

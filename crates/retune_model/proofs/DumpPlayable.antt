@@ -1,5 +1,5 @@
 -- What the dump route writes is playable like its source.
-use Rattle.std.proofs.Common.{◌≡◌, ℕ, zero, suc, ◌+◌, ◌<◌, ◌≤◌, ◌^◌, List, [], ◌∷◌, ◌++◌, Bool, true, false, cond, refl, sym, ap, subst, ◌∙◌, length, filter, arith, inl, inr, ◌&&◌, nat_eq}
+use Rattle.std.proofs.Common.{◌≡◌, ℕ, zero, suc, ◌+◌, ◌<◌, ◌≤◌, ◌^◌, List, [], ◌∷◌, ◌++◌, Bool, true, false, refl, sym, ap, subst, ◌∙◌, length, arith, inl, ◌&&◌, nat_eq}
 use Rattle.std.specs.List.{AllByRecursion}
 use Rattle.std.proofs.lemmas.List.{append_assoc}
 use Rattle.mt_base.specs.Midi.{MidiWhat, Says, SysexOf, MetaOf, MidiEvent, is_end}
@@ -8,7 +8,7 @@ use Rattle.mt_base.specs.declared.event.Msg.TheVariants.{Control}
 use Rattle.midi_model.specs.Sysex.{Doing, Plays, Resets, Tunes, Nothing, doing, is_reset}
 use Rattle.midi_model.specs.Merged.{IsPlayable}
 use Rattle.midi_model.proofs.Merging.{each_append}
-use Rattle.retune_model.specs.Blocks.{Group, Selects, Sends, Block, all_events, events_of}
+use Rattle.retune_model.specs.Blocks.{Group, all_events, events_of}
 use Rattle.retune_model.specs.Routes.{Setup, IsHarmless, sends, selects, setup_at, dump_before, dump_behind, dump_next, dump_block}
 use Rattle.retune_model.specs.Options.{Options}
 use Rattle.retune_model.specs.Faults.{is_part}

@@ -1,5 +1,5 @@
 -- The dump route's output plays the same as its source.
-use Rattle.std.proofs.Common.{◌≡◌, ◌≤◌, ◌<◌, ℕ, zero, suc, List, [], ◌∷◌, ◌++◌, Bool, true, false, cond, ◌&&◌, nat_eq, Option, Some, None, refl, ap, sym, ◌∙◌, subst, map, append_assoc}
+use Rattle.std.proofs.Common.{◌≡◌, ℕ, zero, suc, List, [], ◌∷◌, ◌++◌, Bool, true, false, cond, Some, refl, ap, sym, ◌∙◌, subst, map, append_assoc}
 use Rattle.std.specs.List.{AllByRecursion, filter}
 use Rattle.mt_base.specs.declared.event.Msg.{Msg}
 use Rattle.mt_base.specs.declared.event.Msg.TheVariants.{NoteOn, NoteOff, KeyPressure, Control, Program, Pressure, Bend}
@@ -7,45 +7,43 @@ use Rattle.mt_base.specs.Midi.{MidiWhat, Says, SysexOf, MetaOf, MidiEvent}
 use Rattle.mt_base.specs.Valid.{IsValidEvent}
 use Rattle.midi_model.specs.Sysex.{Doing, Plays, Resets, Tunes, Nothing, doing}
 use Rattle.midi_model.specs.Zones.{no_zones}
-use Rattle.midi_model.specs.Notes.{Note, sounds, cut_off, Fades}
-use Rattle.midi_model.specs.Music.{Music, quiet, channel_at, begun, act, settle_note, advance, step, play}
+use Rattle.midi_model.specs.Notes.{Note, sounds, cut_off}
+use Rattle.midi_model.specs.Music.{Music, quiet, begun, act, settle_note, advance, step, play}
 use Rattle.midi_model.specs.Tuning.{Tuning, untuned, tuning_after}
 use Rattle.midi_model.specs.Receiver.{Receiver, start, receive, receive_all, after}
-use Rattle.midi_model.specs.Order.{AreInOrder}
 use Rattle.midi_model.proofs.Steady.{Steady, steady-quiet, steady-step}
 use Rattle.midi_model.proofs.Same.{music_all, receive_all-append}
 use Rattle.midi_model.proofs.Begun.{AllNotes}
 use Rattle.midi_model.proofs.Fades.{fades_settle}
-use Rattle.retune_model.specs.Table.{Scaling, Bounds}
-use Rattle.retune_model.specs.Options.{Options, Route, ByDump, bends_notes, keeps_drums, is_retuned, bound}
-use Rattle.retune_model.specs.Source.{source_pitch}
-use Rattle.retune_model.specs.PlaysTheSame.{Pairwise, until, at_tick, retuned_notes, key_of, bend_target_if, output_key, IsSameNote, HasSameNotes, IsWithin, SoundsTheSame, HasSameSound, Beginning, begins_note, last_note, beginning, beginnings_from, beginnings, BeginsAlike, BeginsTheSame, PlaysTheSameMusic}
-use Rattle.retune_model.specs.Faults.{Targets, is_part, fault_at, IsFaultless}
+use Rattle.retune_model.specs.Table.{Scaling}
+use Rattle.retune_model.specs.Options.{Options, ByDump, bends_notes, keeps_drums, is_retuned}
+use Rattle.retune_model.specs.PlaysTheSame.{Pairwise, until, at_tick, retuned_notes, key_of, bend_target_if, output_key, IsSameNote, HasSameNotes, SoundsTheSame, HasSameSound, Beginning, last_note, beginning, beginnings_from, BeginsAlike, BeginsTheSame, PlaysTheSameMusic}
+use Rattle.retune_model.specs.Faults.{Targets, is_part, IsFaultless}
 use Rattle.retune_model.specs.Blocks.{Group, Selects, Sends, events_of, all_events, AreSilent, written}
 use Rattle.retune_model.specs.Routes.{Setup, IsHarmless, tuned_by, tuning_run, dump_before, dump_behind, dump_next, dump_block, dump_output}
 use Rattle.retune_model.specs.Plain.{is_plain, ArePlain, IsTuned, has_begun}
 use Rattle.retune_model.specs.Dump.{dump_setup, dumped}
 use Rattle.retune_model.specs.Dumpable.{IsDumpable}
-use Rattle.retune_model.proofs.SameMusic.{Keeps, Ready, dump_keeps, unselected-quiet}
+use Rattle.retune_model.proofs.SameMusic.{Ready, dump_keeps, unselected-quiet}
 use Rattle.retune_model.proofs.Tunings.{made, groups_received, received}
 use Rattle.retune_model.proofs.Tuned.{Tells, tells_next, tells_run}
 use Rattle.retune_model.proofs.Faultless.{all_plain, no_zones_step}
 use Rattle.retune_model.proofs.Heard.{IsHeard, Serves, heard}
-use Rattle.retune_model.proofs.Fronts.{all_weaker, Split, split, until_source, until_output, blocks, all_front, plain_front, faultless_front}
-use Rattle.retune_model.proofs.Served.{IsServed, IsKnown, Shows, all_show, all_known, setup_harmless, setup_parts, served_step, served_play, zones_play}
+use Rattle.retune_model.proofs.Fronts.{all_weaker, split, until_source, until_output, blocks, all_front, plain_front, faultless_front}
+use Rattle.retune_model.proofs.Served.{IsServed, IsKnown, all_show, all_known, setup_harmless, setup_parts, served_step, served_play, zones_play}
 
-pairwise_same : {A : Type 0} (R : A → A → Type 0) (xs : List A) → AllByRecursion (λ x. R x x) xs → Pairwise R xs xs
+pub pairwise_same : {A : Type 0} (R : A → A → Type 0) (xs : List A) → AllByRecursion (λ x. R x x) xs → Pairwise R xs xs
 pairwise_same R [] h = tt
 pairwise_same R (x ∷ xs) h = (h.0, pairwise_same R xs h.1)
 
-pairwise_append : {A B : Type 0} (R : A → B → Type 0) (xs us : List A) (ys vs : List B) → Pairwise R xs ys → Pairwise R us vs → Pairwise R (xs ++ us) (ys ++ vs)
+pub pairwise_append : {A B : Type 0} (R : A → B → Type 0) (xs us : List A) (ys vs : List B) → Pairwise R xs ys → Pairwise R us vs → Pairwise R (xs ++ us) (ys ++ vs)
 pairwise_append R [] us [] vs h k = k
 pairwise_append R [] us (y ∷ ys) vs h k = absurd h
 pairwise_append R (x ∷ xs) us [] vs h k = absurd h
 pairwise_append R (x ∷ xs) us (y ∷ ys) vs h k = (h.0, pairwise_append R xs us ys vs h.1 k)
 
 -- what holds of each note of some channels, of those notes
-of_notes : (part : ℕ → Bool) (Q : Note → Type 0) (ns : List Note) → AllByRecursion (λ n. part n.channel ≡ true → Q n) ns → AllByRecursion Q (filter (λ n. part n.channel) ns)
+pub of_notes : (part : ℕ → Bool) (Q : Note → Type 0) (ns : List Note) → AllByRecursion (λ n. part n.channel ≡ true → Q n) ns → AllByRecursion Q (filter (λ n. part n.channel) ns)
 of_notes part Q [] h = tt
 of_notes part Q (n ∷ ns) h = pick (part n.channel) refl (of_notes part Q ns h.1)
   where
@@ -92,7 +90,7 @@ same_note o table n route = record {
   ended = refl;
 }
 
-every_note : (Q : Note → Type 0) → ((n : Note) → Q n) → (ns : List Note) → AllByRecursion Q ns
+pub every_note : (Q : Note → Type 0) → ((n : Note) → Q n) → (ns : List Note) → AllByRecursion Q ns
 every_note Q f [] = tt
 every_note Q f (n ∷ ns) = (f n, every_note Q f ns)
 
@@ -111,7 +109,7 @@ same_sound scaling o table bytes source m w u g z tuned n h = record {
 serves : (scaling : Scaling) (o : Options) (table : Targets) (bytes : List ℕ) (es : List MidiEvent) → IsDumpable scaling o table bytes es → Serves scaling o table (dump_setup o bytes es) bytes
 serves scaling o table bytes es d = record { route = d.route; bounds = d.bounds; few_terms = d.few_terms; one_table = d.one_table; dump = d.dump }
 
-known : (o : Options) (es : List MidiEvent) → AllByRecursion IsValidEvent es → AllByRecursion (IsKnown o es) es
+pub known : (o : Options) (es : List MidiEvent) → AllByRecursion IsValidEvent es → AllByRecursion (IsKnown o es) es
 known o es h = all_known o es es h (all_show o es)
 
 -- a front of the source, and what the route makes of it
@@ -138,7 +136,7 @@ front scaling o table bytes es xs ys d e =
     }
 
 -- the source's receiver, and the output's, with the same music
-source_music : (xs : List MidiEvent) → after xs ≡ made (play quiet xs) (after xs).tuning
+pub source_music : (xs : List MidiEvent) → after xs ≡ made (play quiet xs) (after xs).tuning
 source_music xs = ap (λ m. made m (after xs).tuning) (music_all start xs)
 
 notes_at : (scaling : Scaling) (o : Options) (table : Targets) (bytes : List ℕ) (es xs ys : List MidiEvent) (part : ℕ → Bool) → IsDumpable scaling o table bytes es → es ≡ xs ++ ys
@@ -199,11 +197,11 @@ same_sounds scaling o table bytes es d t =
     subst P (sym (until_source t es c)) (subst Q (sym (until_output t (dump_setup o bytes es) es c)) (sound_at scaling o table bytes es c.early c.late d c.is))
 
 -- ---- right from its beginning
-no_beginning : (part : ℕ → Bool) (r : Receiver) (g : Group) (ys : List MidiEvent) → beginnings_from part r (events_of g ++ ys) ≡ beginnings_from part (receive_all r (events_of g)) ys
+pub no_beginning : (part : ℕ → Bool) (r : Receiver) (g : Group) (ys : List MidiEvent) → beginnings_from part r (events_of g ++ ys) ≡ beginnings_from part (receive_all r (events_of g)) ys
 no_beginning part r (Selects t track c p) ys = refl
 no_beginning part r (Sends t track bytes) ys = refl
 
-no_beginnings : (part : ℕ → Bool) (r : Receiver) (gs : List Group) (ys : List MidiEvent) → beginnings_from part r (all_events gs ++ ys) ≡ beginnings_from part (receive_all r (all_events gs)) ys
+pub no_beginnings : (part : ℕ → Bool) (r : Receiver) (gs : List Group) (ys : List MidiEvent) → beginnings_from part r (all_events gs ++ ys) ≡ beginnings_from part (receive_all r (all_events gs)) ys
 no_beginnings part r [] ys = refl
 no_beginnings part r (g ∷ gs) ys =
     ap (beginnings_from part r) (append_assoc (events_of g) (all_events gs) ys)
@@ -212,17 +210,17 @@ no_beginnings part r (g ∷ gs) ys =
     ∙ ap (λ x. beginnings_from part x ys) (sym (receive_all-append r (events_of g) (all_events gs)))
 
 -- what holds of the last note of a list
-abbrev LastHas : (Note → Type 0) → List Note → Type 0
+abbrev pub LastHas : (Note → Type 0) → List Note → Type 0
 LastHas P [] = Unit {0}
 LastHas P (n ∷ []) = P n
 LastHas P (n ∷ m ∷ ns) = LastHas P (m ∷ ns)
 
-last_added : (P : Note → Type 0) (f : Note → Note) (ns : List Note) (n : Note) → P (f n) → LastHas P (map f (ns ++ n ∷ []))
+pub last_added : (P : Note → Type 0) (f : Note → Note) (ns : List Note) (n : Note) → P (f n) → LastHas P (map f (ns ++ n ∷ []))
 last_added P f [] n h = h
 last_added P f (x ∷ []) n h = h
 last_added P f (x ∷ y ∷ ns) n h = last_added P f (y ∷ ns) n h
 
-last_begun : (part : ℕ → Bool) (m : Music) (t c k v : ℕ) → part c ≡ true → LastHas (λ n. part n.channel ≡ true) (advance t (Plays (NoteOn c k (suc v))) m).notes
+pub last_begun : (part : ℕ → Bool) (m : Music) (t c k v : ℕ) → part c ≡ true → LastHas (λ n. part n.channel ≡ true) (advance t (Plays (NoteOn c k (suc v))) m).notes
 last_begun part m t c k v h =
     let a : Music = act t (NoteOn c k (suc v)) m in
     last_added (λ n. part n.channel ≡ true) (settle_note a.channels a.zones t) (map (cut_off t c k) m.notes) (begun m t c k (suc v))
@@ -242,7 +240,7 @@ tuned_now : (s : Setup) (part : ℕ → Bool) (b : Bool) (m : Music) (e : MidiEv
 tuned_now s part true m e msg u h parts plain k = tells_next s part true m e (Plays msg) u h parts plain k
 tuned_now s part false m e msg u h parts plain k = tells_next s part false m e (Plays msg) u h parts plain k
 
-abbrev event : ℕ → ℕ → MidiWhat → MidiEvent
+abbrev pub event : ℕ → ℕ → MidiWhat → MidiEvent
 event t track what = record { tick = t; track = track; what = what }
 
 -- one event: m is the music after it

@@ -1,11 +1,10 @@
 -- What a source without faults doesn't do: it sends no tuning message, sets no zone and selects no program on a retuned part.
-use Rattle.std.proofs.Common.{◌≡◌, ◌≤◌, ◌<◌, ◌-◌, ℕ, zero, suc, length, take, drop, get_or, min, List, [], ◌∷◌, ◌++◌, Bool, true, false, cond, not, ◌&&◌, ◌||◌, nat_eq, Option, Some, None, refl, ap, sym, ◌∙◌, subst, arith, ◌⊎◌, inl, inr}
+use Rattle.std.proofs.Common.{◌≡◌, ◌-◌, ℕ, length, take, drop, get_or, min, List, [], ◌∷◌, ◌++◌, Bool, true, false, cond, not, ◌&&◌, ◌||◌, nat_eq, Option, Some, None, refl, ap, sym, ◌∙◌, subst, arith}
 use Rattle.std.specs.List.{AllByRecursion}
-use Rattle.std.specs.Option.{is_some}
-use Rattle.std.proofs.lemmas.Bool.{cases_Bool, both_ways, and_parts, and_from, or_left, or_right, lt-ltb, false_from_ne_true, eqb-true}
+use Rattle.std.proofs.lemmas.Bool.{both_ways, and_parts, and_from, or_left, or_right, lt-ltb, eqb-true}
 use Rattle.mt_base.specs.declared.event.Msg.{Msg}
 use Rattle.mt_base.specs.declared.event.Msg.TheVariants.{NoteOn, NoteOff, KeyPressure, Control, Program, Pressure, Bend}
-use Rattle.mt_base.specs.Midi.{MidiWhat, Says, SysexOf, MetaOf, MidiEvent, channel_of}
+use Rattle.mt_base.specs.Midi.{MidiWhat, Says, SysexOf, MetaOf, MidiEvent}
 use Rattle.mt_base.specs.Valid.{IsValidMsg, IsValidWhat, IsValidEvent}
 use Rattle.midi_model.specs.Sysex.{Wanted, Exactly, Any, is_wanted, begins, key_values, changes, is_dump, is_change, tuning_of, is_reset, Retune, tunes, Doing, Plays, Resets, Tunes, Nothing, doing, is_tuning}
 use Rattle.midi_model.specs.Params.{pair_eq}
@@ -14,7 +13,7 @@ use Rattle.midi_model.specs.Zones.{no_zones, zones_with}
 use Rattle.midi_model.specs.Music.{Music, channel_at, asked, asked_by, asks, advance, step}
 use Rattle.retune_model.specs.Options.{Options, is_retuned}
 use Rattle.retune_model.specs.Plain.{is_plain_entry, is_plain, ArePlain}
-use Rattle.retune_model.specs.Faults.{Targets, Kind, TuningInSource, Port, is_part, first_that, is_entry, is_selected, is_tuning_entry, is_zone_entry, is_unmapped, is_out_of_device, message_tests, is_port, fault_in, fault_at, IsFaultless}
+use Rattle.retune_model.specs.Faults.{Targets, Kind, TuningInSource, is_part, first_that, is_entry, is_selected, is_tuning_entry, is_zone_entry, is_unmapped, is_out_of_device, message_tests, fault_in, fault_at, IsFaultless}
 
 -- where none of the tests is the first to hold, none holds
 none_holds : (xs : List (Kind × Bool)) → first_that xs ≡ None → AllByRecursion (λ x. x.1 ≡ false) xs
@@ -215,7 +214,7 @@ zones_advance m t Resets h z = refl
 zones_advance m t (Tunes r) h z = z
 zones_advance m t Nothing h z = z
 
-sysex_no_play : (lead : ℕ) (bs : List ℕ) (msg : Msg) → doing (SysexOf lead bs) ≡ Plays msg → ⊥
+pub sysex_no_play : (lead : ℕ) (bs : List ℕ) (msg : Msg) → doing (SysexOf lead bs) ≡ Plays msg → ⊥
 sysex_no_play lead bs msg e = pick (nat_eq lead 240) (is_reset bs) (tuning_of bs) e
   where
     pick : (a b : Bool) (x : Option Retune) → cond a (cond b Resets (tunes x)) Nothing ≡ Plays msg → ⊥

@@ -1,6 +1,6 @@
 -- The dump route's output up to a tick is what it makes of the source up to that tick.
-use Rattle.std.proofs.Common.{◌≡◌, ◌≤◌, ◌<◌, ℕ, zero, suc, List, [], ◌∷◌, ◌++◌, Bool, true, false, cond, refl, ap, sym, ◌∙◌, subst, arith, inl, inr, nat_le, append_assoc}
-use Rattle.std.specs.List.{AllByRecursion, filter}
+use Rattle.std.proofs.Common.{◌≡◌, ◌≤◌, ◌<◌, ℕ, List, [], ◌∷◌, ◌++◌, Bool, true, false, refl, ap, sym, ◌∙◌, arith, inl, inr, nat_le, append_assoc}
+use Rattle.std.specs.List.{AllByRecursion}
 use Rattle.std.proofs.lemmas.Bool.{cases_lt, le-leb, lt-leb}
 use Rattle.std.proofs.lemmas.List.Elements.{filter-append}
 use Rattle.mt_base.specs.Midi.{MidiEvent}
@@ -10,7 +10,7 @@ use Rattle.midi_model.specs.Order.{AreInOrder}
 use Rattle.retune_model.specs.PlaysTheSame.{until}
 use Rattle.retune_model.specs.Faults.{Targets, IsFaultless}
 use Rattle.retune_model.specs.Options.{Options}
-use Rattle.retune_model.specs.Blocks.{Group, Selects, Sends, all_events, written}
+use Rattle.retune_model.specs.Blocks.{Group, all_events, written}
 use Rattle.retune_model.specs.Routes.{translated, Setup, sends, selects, setup_at, dump_before, dump_behind, dump_next, dump_block, dump_output}
 use Rattle.retune_model.specs.Plain.{ArePlain, has_begun}
 
@@ -58,7 +58,7 @@ none_behind : (xs : List MidiEvent) → xs ++ [] ≡ xs
 none_behind [] = refl
 none_behind (x ∷ xs) = ap (λ y. x ∷ y) (none_behind xs)
 
-until_split : (t : ℕ) (xs ys : List MidiEvent) → AllByRecursion (λ e. e.tick ≤ t) xs → AllByRecursion (λ e. t < e.tick) ys → until t (xs ++ ys) ≡ xs
+pub until_split : (t : ℕ) (xs ys : List MidiEvent) → AllByRecursion (λ e. e.tick ≤ t) xs → AllByRecursion (λ e. t < e.tick) ys → until t (xs ++ ys) ≡ xs
 until_split t xs ys h k =
     filter-append (λ e. nat_le e.tick t) xs ys ∙ ap (λ x. x ++ until t ys) (until_early t xs h) ∙ ap (λ y. xs ++ y) (until_late t ys k) ∙ none_behind xs
 
@@ -74,7 +74,7 @@ ticks_selects P t track program (c ∷ cs) p = (p, (p, (p, (p, (p, ticks_selects
 ticks_setup : (P : ℕ → Type 0) (s : Setup) (e : MidiEvent) → P e.tick → AllByRecursion (λ x. P x.tick) (all_events (setup_at s e))
 ticks_setup P s e p = ticks_sends P e.tick e.track s.dumps (selects e.tick e.track s.program s.channels) p (ticks_selects P e.tick e.track s.program s.channels p)
 
-ticks_before : (P : ℕ → Type 0) (s : Setup) (b : Bool) (e : MidiEvent) (d : Doing) → P e.tick → AllByRecursion (λ x. P x.tick) (all_events (dump_before s b e d))
+pub ticks_before : (P : ℕ → Type 0) (s : Setup) (b : Bool) (e : MidiEvent) (d : Doing) → P e.tick → AllByRecursion (λ x. P x.tick) (all_events (dump_before s b e d))
 ticks_before P s false e (Plays msg) p = ticks_setup P s e p
 ticks_before P s false e Resets p = tt
 ticks_before P s false e (Tunes x) p = tt
@@ -84,7 +84,7 @@ ticks_before P s true e Resets p = tt
 ticks_before P s true e (Tunes x) p = tt
 ticks_before P s true e Nothing p = tt
 
-ticks_behind : (P : ℕ → Type 0) (s : Setup) (b : Bool) (e : MidiEvent) (d : Doing) → P e.tick → AllByRecursion (λ x. P x.tick) (all_events (dump_behind s b e d))
+pub ticks_behind : (P : ℕ → Type 0) (s : Setup) (b : Bool) (e : MidiEvent) (d : Doing) → P e.tick → AllByRecursion (λ x. P x.tick) (all_events (dump_behind s b e d))
 ticks_behind P s false e (Plays msg) p = tt
 ticks_behind P s false e Resets p = tt
 ticks_behind P s false e (Tunes x) p = tt

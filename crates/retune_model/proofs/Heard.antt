@@ -1,16 +1,14 @@
 -- A retuned note of the dump route is played within the bound of its source pitch.
-use Rattle.std.proofs.Common.{◌≡◌, ◌≤◌, ◌<◌, ◌+◌, ◌*◌, ℕ, zero, suc, List, [], ◌∷◌, Bool, true, false, cond, not, ◌&&◌, nat_eq, Option, Some, None, refl, ap, sym, ◌∙◌, subst, arith, inl, inr, ℤ, pos, ◌+ℤ◌}
+use Rattle.std.proofs.Common.{◌≡◌, ◌≤◌, ◌<◌, ◌+◌, ◌*◌, ℕ, zero, suc, List, [], ◌∷◌, Bool, true, false, cond, ◌&&◌, nat_eq, Option, Some, None, refl, ap, sym, ◌∙◌, subst, arith, inl, inr, ℤ, pos, ◌+ℤ◌}
 use Rattle.std.proofs.lemmas.Int.{ints}
-use Rattle.std.proofs.lemmas.Bool.{cases_eq, eq-eqb, cases_Bool, eqb-true}
+use Rattle.std.proofs.lemmas.Bool.{cases_eq, eq-eqb, eqb-true}
 use Rattle.mt_base.specs.Pitch.{Pitch, exactly, added, Within}
-use Rattle.midi_model.specs.Sysex.{tuning_of, Retune}
 use Rattle.midi_model.specs.Channel.{Channel}
 use Rattle.midi_model.specs.Zones.{no_zones}
 use Rattle.midi_model.specs.Notes.{Note}
 use Rattle.midi_model.specs.Music.{Music, channel_at}
 use Rattle.midi_model.specs.Tuning.{Tuning, selected_of, renew, retuned}
 use Rattle.midi_model.specs.TuningBytes.{numbered}
-use Rattle.midi_model.specs.Receiver.{Receiver}
 use Rattle.midi_model.specs.Played.{played, in_steps, fine, coarse, bent}
 use Rattle.midi_model.proofs.Played.{played_alone}
 use Rattle.retune_model.specs.Table.{Scaling, pitch_at, terms_at, ratios_at_key, Bounds, AreBounds, Bound, IsTable, AreFewTerms, tuning_target}
@@ -79,12 +77,12 @@ value_of_key table s bytes c k t u one d h tuned =
     ∙ told_key s.program (tuning_at table) 128 0 k h.value none (omega arith) (omega (arith, h.low)) at
 
 -- the bounds of a key that has some are those of its pitch
-record HasPitch (scaling : Scaling) (k t : ℕ) (b : Bounds) : Type 0 where
-  pitch : Pitch
-  is : pitch_at scaling k t ≡ Some pitch
-  bounds : AreBounds pitch (terms_at scaling k t) (ratios_at_key scaling k t) b
+pub record HasPitch (scaling : Scaling) (k t : ℕ) (b : Bounds) : Type 0 where
+  pub pitch : Pitch
+  pub is : pitch_at scaling k t ≡ Some pitch
+  pub bounds : AreBounds pitch (terms_at scaling k t) (ratios_at_key scaling k t) b
 
-has_pitch : (scaling : Scaling) (table : Targets) (k t : ℕ) (b : Bounds) → IsTable scaling table → k < 128 → table k t ≡ Some b → HasPitch scaling k t b
+pub has_pitch : (scaling : Scaling) (table : Targets) (k t : ℕ) (b : Bounds) → IsTable scaling table → k < 128 → table k t ≡ Some b → HasPitch scaling k t b
 has_pitch scaling table k t b is low e =
     let h : Bound (terms_at scaling k t) (ratios_at_key scaling k t) (pitch_at scaling k t) (Some b) =
     subst (λ x. Bound (terms_at scaling k t) (ratios_at_key scaling k t) (pitch_at scaling k t) x) e (is.bounds k t (omega (arith, low))) in

@@ -1,14 +1,12 @@
 -- The premises of the dump route's laws can be met: a source with a reset between two notes, in equal temperament.
-use Rattle.std.proofs.Common.{◌≡◌, ◌≤◌, ◌<◌, ◌*◌, ◌+◌, ℕ, List, [], ◌∷◌, Bool, true, false, cond, Option, Some, None, refl, ap, sym, ◌∙◌, subst, arith, pos, lit≤, inl, inr, nat_le, ◌&&◌}
+use Rattle.std.proofs.Common.{◌≡◌, ◌≤◌, ◌*◌, ℕ, List, [], false, Some, refl, ap, sym, subst, arith, pos, inl, nat_le, ◌&&◌}
 use Rattle.std.proofs.lemmas.Int.{ints}
 use Rattle.std.proofs.lemmas.Bool.{lt-leb}
-use Rattle.mt_base.specs.Pitch.{Pitch, exactly}
+use Rattle.mt_base.specs.Pitch.{exactly}
 use Rattle.mt_base.proofs.Pitches.{least_of_exact, most_of_exact}
-use Rattle.mt_base.specs.Midi.{MidiEvent}
-use Rattle.midi_model.specs.Music.{quiet}
 use Rattle.midi_model.specs.Examples.{dump}
-use Rattle.retune_model.specs.Scale.{Step, Mapping, scale_pitch, term_count, ratios_of_key, is_mapped_range}
-use Rattle.retune_model.specs.Table.{Scaling, one_scale, pitch_at, terms_at, ratios_at_key, Bounds, AreBounds, Bound, IsTable, AreFewTerms}
+use Rattle.retune_model.specs.Scale.{Mapping, scale_pitch, term_count, is_mapped_range}
+use Rattle.retune_model.specs.Table.{Scaling, one_scale, terms_at, ratios_at_key, AreBounds, Bound, IsTable}
 use Rattle.retune_model.specs.Options.{ByDump}
 use Rattle.retune_model.specs.PlaysTheSame.{PlaysTheSameMusic}
 use Rattle.retune_model.specs.Dump.{dumped}

@@ -20,3 +20,7 @@ pub mod DumpSame
 pub mod Others
 pub mod DumpFile
 pub mod Instances
+pub mod LiveNotes
+pub mod LiveSame
+pub mod LiveFile
+pub mod Positions

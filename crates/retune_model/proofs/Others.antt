@@ -1,25 +1,24 @@
 -- The dump route passes system exclusive and meta events on, and the messages of kept drums.
-use Rattle.std.proofs.Common.{◌≡◌, ℕ, zero, suc, List, [], ◌∷◌, ◌++◌, Bool, true, false, cond, not, ◌&&◌, ◌||◌, nat_eq, Option, Some, None, refl, ap, sym, ◌∙◌, subst, map, append_assoc}
+use Rattle.std.proofs.Common.{◌≡◌, ℕ, List, [], ◌∷◌, ◌++◌, Bool, true, false, cond, not, ◌&&◌, nat_eq, Some, None, refl, ap, sym, ◌∙◌, map}
 use Rattle.std.specs.Prelude.{◌==◌}
 use Rattle.std.specs.List.{AllByRecursion, filter}
 use Rattle.std.proofs.lemmas.List.Elements.{filter-append}
-use Rattle.mt_base.specs.declared.event.Msg.{Msg}
 use Rattle.mt_base.specs.Midi.{MidiWhat, Says, SysexOf, MetaOf, Timed, MidiEvent}
 use Rattle.midi_model.specs.Sysex.{Doing, Plays, Resets, Tunes, Nothing, doing, is_tuning}
 use Rattle.midi_model.specs.Music.{Music, quiet, step}
-use Rattle.midi_model.specs.Merged.{of_track, timed}
-use Rattle.retune_model.specs.Options.{Options, Route, ByDump, bends_notes, is_drum_message, has_drums, keeps_drums, is_retuned}
+use Rattle.midi_model.specs.Merged.{timed}
+use Rattle.retune_model.specs.Options.{Options, is_drum_message, has_drums}
 use Rattle.retune_model.specs.Table.{Scaling}
 use Rattle.retune_model.specs.PlaysTheSame.{is_tuning_event, is_no_message, other_events, without_tuning, KeepsOtherEvents, drum_events, KeepsDrums}
-use Rattle.retune_model.specs.Faults.{Targets, Kind, TuningInSource, is_part, fault_in, IsFaultless}
-use Rattle.retune_model.specs.Blocks.{Group, Selects, Sends, all_events, written}
-use Rattle.retune_model.specs.Routes.{Setup, sends, selects, setup_at, dump_before, dump_behind, dump_next, dump_block}
+use Rattle.retune_model.specs.Faults.{Targets, TuningInSource, is_part, fault_in, IsFaultless}
+use Rattle.retune_model.specs.Blocks.{Group, all_events}
+use Rattle.retune_model.specs.Routes.{Setup, sends, selects, setup_at, dump_before, dump_behind, dump_next}
 use Rattle.retune_model.specs.Dump.{has_note_on, dump_if, dump_setup, dumped}
 use Rattle.retune_model.specs.Dumpable.{IsDumpable}
 use Rattle.retune_model.proofs.Fronts.{blocks, all_weaker}
 use Rattle.retune_model.proofs.Served.{setup_parts}
 
-filter_twice : {A : Type 0} (f g : A → Bool) (xs : List A) → filter g (filter f xs) ≡ filter (λ x. f x && g x) xs
+pub filter_twice : {A : Type 0} (f g : A → Bool) (xs : List A) → filter g (filter f xs) ≡ filter (λ x. f x && g x) xs
 filter_twice f g [] = refl
 filter_twice f g (x ∷ xs) = pick (f x) (filter_twice f g xs)
   where
@@ -27,7 +26,7 @@ filter_twice f g (x ∷ xs) = pick (f x) (filter_twice f g xs)
     pick true h = ap (λ r. cond (g x) (x ∷ r) r) h
     pick false h = h
 
-filter_timed : (g : Timed → Bool) (xs : List MidiEvent) → filter g (map timed xs) ≡ map timed (filter (λ e. g (timed e)) xs)
+pub filter_timed : (g : Timed → Bool) (xs : List MidiEvent) → filter g (map timed xs) ≡ map timed (filter (λ e. g (timed e)) xs)
 filter_timed g [] = refl
 filter_timed g (x ∷ xs) = pick (g (timed x)) (filter_timed g xs)
   where
@@ -36,14 +35,14 @@ filter_timed g (x ∷ xs) = pick (g (timed x)) (filter_timed g xs)
     pick false h = h
 
 -- ---- what a test refuses of a setup, and lets through of a source
-none_pass : (test : MidiEvent → Bool) (xs : List MidiEvent) → AllByRecursion (λ x. test x ≡ false) xs → filter test xs ≡ []
+pub none_pass : (test : MidiEvent → Bool) (xs : List MidiEvent) → AllByRecursion (λ x. test x ≡ false) xs → filter test xs ≡ []
 none_pass test [] h = refl
 none_pass test (x ∷ xs) h = ap (λ b. cond b (x ∷ filter test xs) (filter test xs)) h.0 ∙ none_pass test xs h.1
 
-abbrev Refuses : (MidiEvent → Bool) → Setup → Type 0
+abbrev pub Refuses : (MidiEvent → Bool) → Setup → Type 0
 Refuses test s = (e : MidiEvent) → AllByRecursion (λ x. test x ≡ false) (all_events (setup_at s e))
 
-none_before : (test : MidiEvent → Bool) (s : Setup) (b : Bool) (e : MidiEvent) (d : Doing) → Refuses test s → filter test (all_events (dump_before s b e d)) ≡ []
+pub none_before : (test : MidiEvent → Bool) (s : Setup) (b : Bool) (e : MidiEvent) (d : Doing) → Refuses test s → filter test (all_events (dump_before s b e d)) ≡ []
 none_before test s false e (Plays msg) h = none_pass test (all_events (setup_at s e)) (h e)
 none_before test s false e Resets h = refl
 none_before test s false e (Tunes x) h = refl
@@ -53,7 +52,7 @@ none_before test s true e Resets h = refl
 none_before test s true e (Tunes x) h = refl
 none_before test s true e Nothing h = refl
 
-none_behind : (test : MidiEvent → Bool) (s : Setup) (b : Bool) (e : MidiEvent) (d : Doing) → Refuses test s → filter test (all_events (dump_behind s b e d)) ≡ []
+pub none_behind : (test : MidiEvent → Bool) (s : Setup) (b : Bool) (e : MidiEvent) (d : Doing) → Refuses test s → filter test (all_events (dump_behind s b e d)) ≡ []
 none_behind test s true e Resets h = none_pass test (all_events (setup_at s e)) (h e)
 none_behind test s false e Resets h = refl
 none_behind test s false e (Plays msg) h = refl
@@ -81,13 +80,13 @@ passed test test2 s b (e ∷ es) h same =
     joined false = refl
 
 -- ---- system exclusive and meta events
-abbrev is_other : ℕ → MidiEvent → Bool
+abbrev pub is_other : ℕ → MidiEvent → Bool
 is_other track e = (e.track == track) && is_no_message e.what
 
-abbrev is_other_untuned : ℕ → MidiEvent → Bool
+abbrev pub is_other_untuned : ℕ → MidiEvent → Bool
 is_other_untuned track e = is_other track e && not (is_tuning_event e.what)
 
-sends_refused : (track t u : ℕ) (bs : List (List ℕ)) (gs : List Group) → AllByRecursion (λ b. is_tuning b ≡ true) bs → AllByRecursion (λ x. is_other_untuned track x ≡ false) (all_events gs)
+pub sends_refused : (track t u : ℕ) (bs : List (List ℕ)) (gs : List Group) → AllByRecursion (λ b. is_tuning b ≡ true) bs → AllByRecursion (λ x. is_other_untuned track x ≡ false) (all_events gs)
     → AllByRecursion (λ x. is_other_untuned track x ≡ false) (all_events (sends t u bs ++ gs))
 sends_refused track t u [] gs h k = k
 sends_refused track t u (b ∷ bs) gs h k = (pick (u == track) (is_tuning b) h.0, sends_refused track t u bs gs h.1 k)
@@ -98,7 +97,7 @@ sends_refused track t u (b ∷ bs) gs h k = (pick (u == track) (is_tuning b) h.0
     pick true false e = absurd cc
     pick false false e = absurd cc
 
-selects_refused : (track t u p : ℕ) (cs : List ℕ) → AllByRecursion (λ x. is_other_untuned track x ≡ false) (all_events (selects t u p cs))
+pub selects_refused : (track t u p : ℕ) (cs : List ℕ) → AllByRecursion (λ x. is_other_untuned track x ≡ false) (all_events (selects t u p cs))
 selects_refused track t u p [] = tt
 selects_refused track t u p (c ∷ cs) = (pick (u == track), (pick (u == track), (pick (u == track), (pick (u == track), (pick (u == track), selects_refused track t u p cs)))))
   where
@@ -115,7 +114,7 @@ untuned_what o table m after t (SysexOf lead bs) e = pick (nat_eq lead 0xf0 && i
     pick true h = absurd cc
     pick false h = refl
 
-all_untuned : (o : Options) (table : Targets) (m : Music) (track : ℕ) (es : List MidiEvent) → IsFaultless o table m es → AllByRecursion (λ e. is_other_untuned track e ≡ is_other track e) es
+pub all_untuned : (o : Options) (table : Targets) (m : Music) (track : ℕ) (es : List MidiEvent) → IsFaultless o table m es → AllByRecursion (λ e. is_other_untuned track e ≡ is_other track e) es
 all_untuned o table m track [] h = tt
 all_untuned o table m track (e ∷ es) h = (ap (λ b. is_other track e && not b) (untuned_what o table m (step m e) e.tick e.what h.0) ∙ plain (is_other track e), all_untuned o table (step m e) track es h.1)
   where
@@ -127,7 +126,7 @@ all_dumps : (b : Bool) (bytes : List ℕ) → is_tuning bytes ≡ true → AllBy
 all_dumps true bytes h = (h, tt)
 all_dumps false bytes h = tt
 
-other_by_test : (track : ℕ) (es : List MidiEvent) → other_events track es ≡ map timed (filter (is_other track) es)
+pub other_by_test : (track : ℕ) (es : List MidiEvent) → other_events track es ≡ map timed (filter (is_other track) es)
 other_by_test track es = ap (map timed) (filter_twice (λ e. e.track == track) (λ e. is_no_message e.what) es)
 
 pub others_kept : (scaling : Scaling) (o : Options) (table : Targets) (bytes : List ℕ) (es : List MidiEvent) → IsDumpable scaling o table bytes es → KeepsOtherEvents o es (dumped o bytes es)
@@ -142,36 +141,36 @@ others_kept scaling o table bytes es d track =
     ∙ sym (other_by_test track es)
 
 -- ---- drums
-abbrev is_drum_on : ℕ → MidiEvent → Bool
+abbrev pub is_drum_on : ℕ → MidiEvent → Bool
 is_drum_on track e = (e.track == track) && is_drum_message e.what
 
-drums_by_test : (track : ℕ) (es : List MidiEvent) → drum_events track es ≡ map timed (filter (is_drum_on track) es)
+pub drums_by_test : (track : ℕ) (es : List MidiEvent) → drum_events track es ≡ map timed (filter (is_drum_on track) es)
 drums_by_test track es = ap (map timed) (filter_twice (λ e. e.track == track) (λ e. is_drum_message e.what) es)
 
-neither : (b : Bool) → (b && false) ≡ false
+pub neither : (b : Bool) → (b && false) ≡ false
 neither true = refl
 neither false = refl
 
-sends_no_drums : (track t u : ℕ) (bs : List (List ℕ)) (gs : List Group) → AllByRecursion (λ x. is_drum_on track x ≡ false) (all_events gs) → AllByRecursion (λ x. is_drum_on track x ≡ false) (all_events (sends t u bs ++ gs))
+pub sends_no_drums : (track t u : ℕ) (bs : List (List ℕ)) (gs : List Group) → AllByRecursion (λ x. is_drum_on track x ≡ false) (all_events gs) → AllByRecursion (λ x. is_drum_on track x ≡ false) (all_events (sends t u bs ++ gs))
 sends_no_drums track t u [] gs h = h
 sends_no_drums track t u (b ∷ bs) gs h = (neither (u == track), sends_no_drums track t u bs gs h)
 
-selects_no_drums : (track t u p : ℕ) (cs : List ℕ) → AllByRecursion (λ c. nat_eq c 9 ≡ false) cs → AllByRecursion (λ x. is_drum_on track x ≡ false) (all_events (selects t u p cs))
+pub selects_no_drums : (track t u p : ℕ) (cs : List ℕ) → AllByRecursion (λ c. nat_eq c 9 ≡ false) cs → AllByRecursion (λ x. is_drum_on track x ≡ false) (all_events (selects t u p cs))
 selects_no_drums track t u p [] h = tt
 selects_no_drums track t u p (c ∷ cs) h =
     let here : ((u == track) && nat_eq c 9) ≡ false = ap (λ b. (u == track) && b) h.0 ∙ neither (u == track) in
     (here, (here, (here, (here, (here, selects_no_drums track t u p cs h.1)))))
 
-not_nine : (keep nine : Bool) → keep ≡ true → not (keep && nine) ≡ true → nine ≡ false
+pub not_nine : (keep nine : Bool) → keep ≡ true → not (keep && nine) ≡ true → nine ≡ false
 not_nine true true e h = absurd cc
 not_nine true false e h = refl
 not_nine false nine e h = absurd cc
 
-kept_by : (keep has : Bool) → (keep && has) ≡ true → keep ≡ true
+pub kept_by : (keep has : Bool) → (keep && has) ≡ true → keep ≡ true
 kept_by true has h = refl
 kept_by false has h = absurd cc
 
-every_same : (test : MidiEvent → Bool) (es : List MidiEvent) → AllByRecursion (λ e. test e ≡ test e) es
+pub every_same : (test : MidiEvent → Bool) (es : List MidiEvent) → AllByRecursion (λ e. test e ≡ test e) es
 every_same test [] = tt
 every_same test (e ∷ es) = (refl, every_same test es)
 

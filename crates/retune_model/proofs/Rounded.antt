@@ -1,9 +1,9 @@
 -- A target is within half a step of the lower end that it is taken from, and so of the pitch within the bound.
-use Rattle.std.proofs.Common.{List, ◌≡◌, ◌≤◌, ◌<◌, ◌+◌, ◌*◌, ◌/◌, ◌%◌, ℕ, zero, suc, Bool, true, false, cond, Option, Some, None, refl, ap, sym, ◌∙◌, subst, arith, pos, negsuc, ℤ, ◌+ℤ◌, ◌-ℤ◌, ◌≤ℤ◌, nat_le}
+use Rattle.std.proofs.Common.{List, ◌≡◌, ◌≤◌, ◌<◌, ◌+◌, ◌*◌, ◌/◌, ◌%◌, ℕ, Bool, true, false, cond, Some, None, arith, pos, negsuc, ℤ, ◌+ℤ◌, ◌-ℤ◌, ◌≤ℤ◌, nat_le}
 use Rattle.std.specs.Int.{int_div_euclid}
 use Rattle.std.proofs.lemmas.Int.{ints}
 use Rattle.std.proofs.Math.Nat.{mod-add-div, mod-lt}
-use Rattle.mt_base.specs.Pitch.{Pitch, exactly, added, AtLeast, AtMost, Within}
+use Rattle.mt_base.specs.Pitch.{Pitch, exactly, added, Within}
 use Rattle.mt_base.proofs.Pitches.{least_of_sum, most_of_sum, least_of_exact, most_of_exact, least_of_less, most_of_more}
 use Rattle.retune_model.specs.Table.{Bounds, AreBounds, up_to, nearest_tuning, tuning_target}
 

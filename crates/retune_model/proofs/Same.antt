@@ -1,8 +1,7 @@
 -- What a translation by blocks writes is the same music as its source.
 use Rattle.std.proofs.Common.{◌≡◌, List, [], ◌∷◌, ◌++◌, refl, ap, sym, ◌∙◌}
-use Rattle.mt_base.specs.Midi.{MidiEvent}
 use Rattle.midi_model.specs.Music.{Music, quiet, step, play}
-use Rattle.midi_model.specs.Receiver.{Receiver, start, receive, receive_all, after}
+use Rattle.midi_model.specs.Receiver.{start, after}
 use Rattle.retune_model.specs.Blocks.{all_events, AreSilent, Block, written, output, sources, Fits}
 use Rattle.midi_model.proofs.Same.{play-append, music_all}
 use Rattle.midi_model.proofs.Steady.{Steady, steady-quiet, steady-step, steady-play}

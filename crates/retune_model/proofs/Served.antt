@@ -1,24 +1,23 @@
 -- Each note on of a retuned part of a source that dump takes is served by the setup.
-use Rattle.std.proofs.Common.{◌≡◌, ◌≤◌, ◌<◌, ◌+◌, ℕ, zero, suc, List, [], ◌∷◌, ◌++◌, Bool, true, false, cond, not, ◌&&◌, ◌||◌, nat_eq, Option, Some, None, refl, ap, sym, ◌∙◌, subst, arith, inl, inr, lit<}
+use Rattle.std.proofs.Common.{◌≡◌, ◌≤◌, ◌<◌, ◌+◌, ℕ, zero, suc, List, [], ◌∷◌, Bool, true, false, cond, not, ◌&&◌, nat_eq, Option, Some, None, refl, ap, sym, ◌∙◌, subst, arith, inl, inr}
 use Rattle.std.specs.List.{AllByRecursion, filter}
 use Rattle.std.specs.Option.{is_some}
-use Rattle.std.proofs.lemmas.Bool.{both_ways, and_from, and_parts, or_left, or_right, cases_eq, eq-eqb}
+use Rattle.std.proofs.lemmas.Bool.{and_from, and_parts, or_left, or_right, cases_eq, eq-eqb}
 use Rattle.mt_base.specs.declared.event.Msg.{Msg}
 use Rattle.mt_base.specs.declared.event.Msg.TheVariants.{NoteOn, NoteOff, KeyPressure, Control, Program, Pressure, Bend}
-use Rattle.mt_base.specs.Midi.{MidiWhat, Says, SysexOf, MetaOf, MidiEvent, channel_of}
+use Rattle.mt_base.specs.Midi.{MidiWhat, Says, SysexOf, MetaOf, MidiEvent}
 use Rattle.mt_base.specs.Valid.{IsValidWhat, IsValidEvent}
 use Rattle.midi_model.specs.Sysex.{is_reset}
-use Rattle.midi_model.specs.Tuning.{Tuning, selected_of}
-use Rattle.midi_model.specs.Music.{Music, quiet, step, play}
+use Rattle.midi_model.specs.Tuning.{selected_of}
+use Rattle.midi_model.specs.Music.{Music, step, play}
 use Rattle.midi_model.specs.Zones.{no_zones}
 use Rattle.midi_model.proofs.Begun.{AllNotes, Begins, BeginsIn, all_step}
-use Rattle.retune_model.specs.Table.{Bounds, tuning_target}
-use Rattle.retune_model.specs.Options.{Options, Route, ByDump, has_drums, is_drum_message, keeps_drums, is_retuned}
+use Rattle.retune_model.specs.Table.{tuning_target}
+use Rattle.retune_model.specs.Options.{Options, ByDump, has_drums, is_drum_message, keeps_drums, is_retuned}
 use Rattle.retune_model.specs.PlaysTheSame.{begins_note}
-use Rattle.retune_model.specs.Faults.{Targets, is_part, has_target, misses_target, is_unmapped, is_out_of_device, fault_in, fault_at, IsFaultless}
-use Rattle.retune_model.specs.Routes.{Setup, IsHarmless}
-use Rattle.retune_model.specs.Plain.{IsTuned}
-use Rattle.retune_model.specs.Dump.{has_note_on, from_up, sounding_parts, dump_if, dump_setup, IsDumpOf}
+use Rattle.retune_model.specs.Faults.{Targets, is_part, has_target, misses_target, fault_in, fault_at, IsFaultless}
+use Rattle.retune_model.specs.Routes.{IsHarmless}
+use Rattle.retune_model.specs.Dump.{has_note_on, from_up, dump_if, dump_setup}
 use Rattle.retune_model.proofs.Faultless.{IsFine, fine, no_zones_step}
 use Rattle.retune_model.proofs.Heard.{IsHeard}
 use Rattle.retune_model.proofs.Fronts.{all_weaker}
@@ -48,7 +47,7 @@ all_show o (x ∷ xs) = (
 )
 
 -- what holds of all that pass a test holds of each that does
-of_passed : (Q : ℕ → Type 0) (f : ℕ → Bool) (n a c : ℕ) → a ≤ c → c < a + n → f c ≡ true → AllByRecursion Q (filter f (from_up a n)) → Q c
+pub of_passed : (Q : ℕ → Type 0) (f : ℕ → Bool) (n a c : ℕ) → a ≤ c → c < a + n → f c ≡ true → AllByRecursion Q (filter f (from_up a n)) → Q c
 of_passed Q f zero a c low high e h = absurd (omega (arith, low, high))
 of_passed Q f (suc n) a c low high e h = elim (cases_eq c a) [
   | inl same ↦ (let at : f a ≡ true = ap f (sym same) ∙ e in subst Q (sym same) (first (f a) at h))
@@ -94,21 +93,21 @@ pub setup_parts : (o : Options) (bytes : List ℕ) (source : List MidiEvent) →
 setup_parts o bytes source = all_passed (λ c. is_part o c ≡ true) (λ c. is_part o c && has_note_on (λ d. nat_eq d c) source) (from_up 0 16) (parts_from_up o (λ c. has_note_on (λ d. nat_eq d c) source) 16 0)
 
 -- ---- a note on
-record Found {A : Type 0} (x : Option A) : Type 0 where
-  value : A
-  is : x ≡ Some value
+pub record Found {A : Type 0} (x : Option A) : Type 0 where
+  pub value : A
+  pub is : x ≡ Some value
 
-found : {A : Type 0} (x : Option A) → is_some x ≡ true → Found x
+pub found : {A : Type 0} (x : Option A) → is_some x ≡ true → Found x
 found None h = absurd cc
 found (Some a) h = record { value = a; is = refl }
 
-unless : (a b : Bool) → (a && not b) ≡ false → a ≡ true → b ≡ true
+pub unless : (a b : Bool) → (a && not b) ≡ false → a ≡ true → b ≡ true
 unless true true h k = refl
 unless true false h k = absurd cc
 unless false b h k = absurd cc
 
 -- drums that are kept are those of the source
-still_part : (keep has nine : Bool) → (nine ≡ true → has ≡ true) → not ((keep && has) && nine) ≡ true → not (keep && nine) ≡ true
+pub still_part : (keep has nine : Bool) → (nine ≡ true → has ≡ true) → not ((keep && has) && nine) ≡ true → not (keep && nine) ≡ true
 still_part false has nine f h = refl
 still_part true has false f h = refl
 still_part true true true f h = h

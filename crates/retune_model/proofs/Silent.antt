@@ -1,5 +1,5 @@
 -- What isn't heard in the music.
-use Rattle.std.proofs.Common.{◌≡◌, ℕ, zero, suc, ◌<◌, List, [], ◌∷◌, ◌++◌, true, false, cond, Option, Some, None, refl, ap, sym, ◌∙◌, length, map, set, get_or}
+use Rattle.std.proofs.Common.{◌≡◌, ℕ, zero, suc, ◌<◌, List, [], ◌∷◌, true, false, cond, Option, Some, None, refl, ap, sym, ◌∙◌, length, map, set, get_or}
 use Rattle.std.proofs.lemmas.List.{length-set, get_or-set_same, set-get_or}
 use Rattle.mt_base.specs.declared.event.Msg.TheVariants.{Control}
 use Rattle.mt_base.specs.Midi.{MidiEvent, SysexOf}
@@ -9,7 +9,7 @@ use Rattle.midi_model.specs.Zones.{governor, bend_ranges, zones_with}
 use Rattle.midi_model.specs.Notes.{Note}
 use Rattle.midi_model.specs.Music.{Music, channel_at, pedal, settle_note, settle, asked, advance, step, play}
 use Rattle.retune_model.specs.Blocks.{says, selecting, Group, Selects, Sends, events_of, all_events, IsSilent, AreSilent}
-use Rattle.midi_model.proofs.Same.{play-append, music_all}
+use Rattle.midi_model.proofs.Same.{play-append}
 use Rattle.midi_model.proofs.Steady.{Steady}
 
 -- a channel's selection replaced

@@ -17,7 +17,7 @@ use Rattle.retune_model.proofs.SameMusic.{Ready, live_keeps, unselected-quiet}
 use Rattle.retune_model.proofs.Tunings.{received}
 use Rattle.retune_model.proofs.Tuned.{values_selects, wide_selects, all_selects, Leaves, leaves_message, all_left}
 
-abbrev AllHave : Live → Tuning → Type 0
+abbrev pub AllHave : Live → Tuning → Type 0
 AllHave l u = AllByRecursion (λ c. selected_of u c ≡ Some l.setup.program) l.setup.channels
 
 tuned_append : (xs ys : List Group) (u : Tuning) → tuned_by (xs ++ ys) u ≡ tuned_by ys (tuned_by xs u)
@@ -107,7 +107,7 @@ changed l value s m e (Pressure c x) v r plain h = record { values = h; selected
 changed l value s m e (Bend c x) v r plain h = record { values = h; selected = refl }
 
 -- a source message, with what stands before it
-told_message : (l : Live) (value : ℕ → ℕ) (s : Told) (m : Music) (e : MidiEvent) (msg : Msg) (u : Tuning) → IsHarmless l.setup → Reads l value → AllByRecursion (λ c. l.is_retuned c ≡ true) l.setup.channels
+pub told_message : (l : Live) (value : ℕ → ℕ) (s : Told) (m : Music) (e : MidiEvent) (msg : Msg) (u : Tuning) → IsHarmless l.setup → Reads l value → AllByRecursion (λ c. l.is_retuned c ≡ true) l.setup.channels
     → is_plain l.is_retuned m (Plays msg) ≡ true → IsTold l value s u
     → IsTold l value (live_next l s (Plays msg)) (tuning_after m (Plays msg) (tuned_by (live_before l s e (Plays msg)) u))
 told_message l value s m e msg u h r parts plain k =
@@ -134,7 +134,7 @@ told_reset l value true m e h r =
     let x : Set_up l untuned (tuned_by (setup_at l.setup e) untuned) = set_up l e untuned h r.none refl in
     record { values = λ k t. absurd cc; selected = λ t. x.selected; wide = x.wide }
 
-told_next : (l : Live) (value : ℕ → ℕ) (s : Told) (m : Music) (e : MidiEvent) (d : Doing) (u : Tuning) → IsHarmless l.setup → Reads l value → AllByRecursion (λ c. l.is_retuned c ≡ true) l.setup.channels
+pub told_next : (l : Live) (value : ℕ → ℕ) (s : Told) (m : Music) (e : MidiEvent) (d : Doing) (u : Tuning) → IsHarmless l.setup → Reads l value → AllByRecursion (λ c. l.is_retuned c ≡ true) l.setup.channels
     → is_plain l.is_retuned m d ≡ true → IsTold l value s u
     → IsTold l value (live_next l s d) (tuned_by (dump_behind l.setup s.begun e d) (tuning_after m d (tuned_by (live_before l s e d) u)))
 told_next l value s m e (Plays msg) u h r parts plain k = pick s.begun
@@ -150,7 +150,7 @@ told_next l value s m e Nothing u h r parts plain k = pick s.begun
     pick true = k
     pick false = k
 
-told_run : (l : Live) (value : ℕ → ℕ) (s : Told) (m : Music) (es : List MidiEvent) (u : Tuning) → IsHarmless l.setup → Reads l value → AllByRecursion (λ c. l.is_retuned c ≡ true) l.setup.channels
+pub told_run : (l : Live) (value : ℕ → ℕ) (s : Told) (m : Music) (es : List MidiEvent) (u : Tuning) → IsHarmless l.setup → Reads l value → AllByRecursion (λ c. l.is_retuned c ≡ true) l.setup.channels
     → ArePlain l.is_retuned m es → IsTold l value s u → IsTold l value (told_after l s es) (tuning_run (live_block l) (λ x e. live_next l x (doing e.what)) s m u es)
 told_run l value s m [] u h r parts plain k = k
 told_run l value s m (e ∷ es) u h r parts plain k = told_run l value (live_next l s (doing e.what)) (step m e) es _ h r parts plain.1 (told_next l value s m e (doing e.what) u h r parts plain.0 k)

@@ -1,5 +1,5 @@
 -- What silent groups do to the tuning, and the whole receiver after a translation by blocks.
-use Rattle.std.proofs.Common.{◌≡◌, ℕ, ◌<◌, List, [], ◌∷◌, ◌++◌, cond, Option, Some, None, refl, ap, sym, ◌∙◌, length, set}
+use Rattle.std.proofs.Common.{◌≡◌, ℕ, ◌<◌, List, [], ◌∷◌, cond, Option, Some, None, refl, ap, sym, ◌∙◌, length, set}
 use Rattle.mt_base.specs.declared.event.Msg.TheVariants.{Control}
 use Rattle.mt_base.specs.Midi.{MidiEvent}
 use Rattle.midi_model.specs.Sysex.{Resets, doing, tunes, tuning_of, Retune}

@@ -1,11 +1,11 @@
 -- The output of the bend route (this project's own): each pair of a part and a bend has a channel of its own while it sounds.
 --
 -- `channel k p` is the channel that the run of p has at position k.
-use Rattle.std.specs.Prelude.{ℕ, zero, suc, List, [], ◌∷◌, ◌++◌, Bool, true, false, ◌&&◌, ◌||◌, not, nat_eq, nat_le, nat_lt, if◌then◌else◌, Option, Some, None, map, filter}
+use Rattle.std.specs.Prelude.{ℕ, zero, suc, List, [], ◌∷◌, ◌++◌, ◌&&◌, nat_eq, nat_lt, if◌then◌else◌, Option, Some, None, map}
 use Rattle.std.specs.Set.{is_member}
 use Rattle.mt_base.specs.declared.pair.Pair.{Pair}
 use Rattle.mt_base.specs.declared.event.Msg.{Msg}
-use Rattle.mt_base.specs.declared.event.Msg.TheVariants.{NoteOn, NoteOff, KeyPressure, Control, Program, Pressure, Bend}
+use Rattle.mt_base.specs.declared.event.Msg.TheVariants.{NoteOn, NoteOff, Control}
 use Rattle.mt_base.specs.Midi.{MidiWhat, Says, SysexOf, MetaOf, MidiEvent, channel_of}
 use Rattle.midi_model.specs.Channel.{Role, AllSoundOff, AllNotesOff, Ignored, role}
 use Rattle.midi_model.specs.Notes.{Note, is_down, is_at}
@@ -15,7 +15,6 @@ use Rattle.retune_model.specs.Table.{BendTarget}
 use Rattle.retune_model.specs.Options.{Options}
 use Rattle.retune_model.specs.PlaysTheSame.{bend_target_if}
 use Rattle.retune_model.specs.Faults.{Targets, is_part, target_of}
-use Rattle.retune_model.specs.Blocks.{says}
 use Rattle.retune_model.specs.Pairs.{is_same_pair, sounding, pairs_of}
 use Rattle.retune_model.specs.Choice.{wanted}
 

@@ -2,10 +2,10 @@
 --
 -- `at k` is the set of pairs at position k, and `row b` is the place, in the row of used channels, of the run that begins at
 -- position b.
-use Rattle.std.specs.Prelude.{◌≡◌, ◌<◌, ◌≤◌, ◌⊎◌, ℕ, zero, suc, ◌+◌, ◌*◌, ℤ, pos, negsuc, ◌+ℤ◌, List, [], ◌∷◌, Bool, true, false, ◌&&◌, ◌||◌, nat_eq, nat_le, if◌then◌else◌, Option, Some, None, length, set, replicate}
+use Rattle.std.specs.Prelude.{◌≡◌, ◌<◌, ◌≤◌, ◌⊎◌, ℕ, zero, suc, ℤ, pos, negsuc, ◌+ℤ◌, List, [], ◌∷◌, Bool, true, false, ◌&&◌, nat_eq, nat_le, if◌then◌else◌, Option, Some, None, length, set, replicate}
 use Rattle.mt_base.specs.declared.pair.Pair.{Pair}
 use Rattle.midi_model.specs.Params.{rpn, put}
-use Rattle.midi_model.specs.Channel.{Channel, State, default_channel}
+use Rattle.midi_model.specs.Channel.{State, default_channel}
 use Rattle.midi_model.specs.Notes.{Note}
 use Rattle.midi_model.specs.Music.{Music, channel_at}
 use Rattle.midi_model.specs.Bring.{bring}

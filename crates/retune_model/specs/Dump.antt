@@ -1,5 +1,5 @@
 -- The output of the dump and live routes for a source, its table and the options (this project's own).
-use Rattle.std.specs.Prelude.{◌≡◌, ℕ, zero, suc, ◌+◌, List, [], ◌∷◌, Bool, true, false, ◌&&◌, ◌||◌, filter, nat_eq, Option, Some, None}
+use Rattle.std.specs.Prelude.{◌≡◌, ℕ, zero, suc, ◌+◌, List, [], ◌∷◌, Bool, true, false, ◌&&◌, ◌||◌, filter, nat_eq, Option, Some, None, unwrap_or, ◌<◌}
 use Rattle.mt_base.specs.Midi.{MidiEvent}
 use Rattle.midi_model.specs.Sysex.{tuning_of, is_reset, is_tuning}
 use Rattle.midi_model.specs.TuningBytes.{numbered}
@@ -14,6 +14,7 @@ abbrev pub has_note_on : (ℕ → Bool) → List MidiEvent → Bool
 has_note_on part [] = false
 has_note_on part (e ∷ es) = begins_note part e.what || has_note_on part es
 
+-- so many channels from one on
 abbrev pub from_up : ℕ → ℕ → List ℕ
 from_up c zero = []
 from_up c (suc n) = c ∷ from_up (c + 1) n
@@ -40,6 +41,16 @@ pub record IsDumpOf (program : ℕ) (f : ℕ → Option ℕ) (bytes : List ℕ) 
   pub reads : tuning_of bytes ≡ Some (record { program = program; keys = numbered 0 (values_from f 0 128) })
   pub tuning : is_tuning bytes ≡ true
   pub no_reset : is_reset bytes ≡ false
+
+-- The bytes of a change of each key to its value: each reads so, and is a tuning message and no reset.
+pub record AreChangesOf (program : ℕ) (value : ℕ → ℕ) (bytes : ℕ → List ℕ) : Type 0 where
+  pub reads : (k : ℕ) → k < 128 → tuning_of (bytes k) ≡ Some (record { program = program; keys = (k, Some (value k)) ∷ [] })
+  pub tuning : (k : ℕ) → is_tuning (bytes k) ≡ true
+  pub no_reset : (k : ℕ) → is_reset (bytes k) ≡ false
+
+-- the value of a key that is changed; a key without a target never is
+abbrev pub told_value : Targets → ℕ → ℕ
+told_value table key = unwrap_or (tuning_at table key) 0
 
 -- one dump, where a retuned part has a note on; then the selection on each such part
 abbrev pub dump_if : Bool → List ℕ → List (List ℕ)

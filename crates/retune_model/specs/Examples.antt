@@ -1,18 +1,17 @@
 -- Worked examples: scales, mappings, tables of bounds, sources and what they cause. Channels are counted from 0.
-use Rattle.std.specs.Prelude.{ℕ, zero, suc, ◌+◌, ◌*◌, ℤ, pos, negsuc, List, [], ◌∷◌, ◌++◌, Bool, true, false, nat_eq, if◌then◌else◌, Option, Some, None, map, length}
+use Rattle.std.specs.Prelude.{ℕ, zero, suc, ◌+◌, ◌*◌, ℤ, pos, negsuc, List, [], ◌∷◌, ◌++◌, true, nat_eq, if◌then◌else◌, Option, Some, None, length}
 use Rattle.mt_base.specs.declared.pair.Pair.{Pair}
 use Rattle.mt_base.specs.declared.event.Msg.{Msg}
-use Rattle.mt_base.specs.declared.event.Msg.TheVariants.{NoteOn, NoteOff, KeyPressure, Control, Program, Pressure, Bend}
+use Rattle.mt_base.specs.declared.event.Msg.TheVariants.{NoteOn, NoteOff, Control, Program}
 use Rattle.mt_base.specs.Midi.{MidiEvent, MetaOf}
 use Rattle.midi_model.specs.Music.{quiet}
-use Rattle.midi_model.specs.Examples.{at, all_at, sysex, general_midi_on, registered, two_channels}
+use Rattle.midi_model.specs.Examples.{at, all_at, sysex, general_midi_on, registered}
 use Rattle.retune_model.specs.Scale.{Step, Ratio, Cents, Mapping}
 use Rattle.retune_model.specs.Table.{Bounds}
-use Rattle.retune_model.specs.Options.{Options, Route, ByDump, ByLive, ByBend, ByMpe}
+use Rattle.retune_model.specs.Options.{Options, Route, ByBend, ByMpe}
 use Rattle.retune_model.specs.Faults.{Targets, Kind, first_fault}
 use Rattle.retune_model.specs.Numbered.{numbered}
 use Rattle.retune_model.specs.Pairs.{pairs_at}
-use Rattle.retune_model.specs.Dump.{dumped, told_live}
 use Rattle.retune_model.specs.BendOutput.{bend_output}
 
 -- ---- scales and mappings

@@ -1,19 +1,18 @@
 -- The output of the MPE route (MPE 1.0, in this project's profile): each of at most two parts has a zone. The part's messages go
 -- to the master, each note to the member of its pair, which has the pair's bend.
-use Rattle.std.specs.Prelude.{ℕ, zero, suc, ◌+◌, ◌-◌, ℤ, pos, ◌+ℤ◌, List, [], ◌∷◌, ◌++◌, Bool, true, false, ◌&&◌, ◌||◌, not, nat_eq, nat_lt, if◌then◌else◌, Option, Some, None, map}
+use Rattle.std.specs.Prelude.{ℕ, zero, suc, ◌+◌, ◌-◌, pos, ◌+ℤ◌, List, [], ◌∷◌, ◌++◌, Bool, true, false, nat_eq, nat_lt, if◌then◌else◌, Option, Some, None, map}
 use Rattle.std.specs.Set.{is_member}
 use Rattle.mt_base.specs.declared.pair.Pair.{Pair}
 use Rattle.mt_base.specs.declared.event.Msg.{Msg}
 use Rattle.mt_base.specs.declared.event.Msg.TheVariants.{NoteOn, NoteOff, KeyPressure, Control, Program, Pressure, Bend}
 use Rattle.mt_base.specs.Midi.{MidiWhat, Says, SysexOf, MetaOf, MidiEvent, channel_of}
 use Rattle.midi_model.specs.Sysex.{Doing, Plays, Resets, doing}
-use Rattle.midi_model.specs.Notes.{Note}
 use Rattle.midi_model.specs.Music.{Music, quiet, play, step, channel_at}
 use Rattle.midi_model.specs.Bring.{where_differs}
 use Rattle.retune_model.specs.Table.{BendTarget}
 use Rattle.retune_model.specs.Options.{Options}
 use Rattle.retune_model.specs.PlaysTheSame.{bend_target_if}
-use Rattle.retune_model.specs.Faults.{Targets, is_part, target_of}
+use Rattle.retune_model.specs.Faults.{Targets, is_part}
 use Rattle.retune_model.specs.Routes.{dump_next}
 use Rattle.retune_model.specs.Pairs.{is_same_pair, sounding, pairs_of}
 use Rattle.retune_model.specs.Choice.{bend_value}

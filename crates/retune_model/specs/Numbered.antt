@@ -1,6 +1,6 @@
 -- The events of one port with their places among all events of the file, counted from 1 (this project's own). Position k is the
 -- moment after event k; position 0 is before the first.
-use Rattle.std.specs.Prelude.{ℕ, zero, suc, List, [], ◌∷◌, map, filter, nat_le, nat_eq, if◌then◌else◌, Bool, false, true, ◌||◌, ◌&&◌}
+use Rattle.std.specs.Prelude.{ℕ, suc, List, [], ◌∷◌, map, filter, nat_le, nat_eq, if◌then◌else◌, Bool, false, true, ◌||◌, ◌&&◌}
 use Rattle.mt_base.specs.Midi.{MidiEvent}
 use Rattle.midi_model.specs.Sysex.{Doing, Resets, doing}
 use Rattle.midi_model.specs.Music.{Music, quiet, play}

@@ -1,5 +1,5 @@
 -- Which pairs of a part and a bend sound at each position (this project's own).
-use Rattle.std.specs.Prelude.{ℕ, ◌+◌, ℤ, pos, negsuc, List, [], ◌∷◌, Bool, true, false, ◌&&◌, ◌||◌, not, nat_eq, nat_lt, if◌then◌else◌, Option, Some, None, filter, map}
+use Rattle.std.specs.Prelude.{ℕ, ℤ, pos, negsuc, List, [], ◌∷◌, Bool, true, false, ◌&&◌, ◌||◌, nat_eq, nat_lt, if◌then◌else◌, Option, Some, None, filter, map}
 use Rattle.mt_base.specs.declared.pair.Pair.{Pair}
 use Rattle.mt_base.specs.Midi.{MidiEvent}
 use Rattle.midi_model.specs.Notes.{Note, sounds}

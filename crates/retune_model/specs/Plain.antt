@@ -1,4 +1,4 @@
--- Sources that say nothing of tuning or zones on retuned parts, and the tuning that dump and live leave.
+-- Sources that say nothing of tuning on retuned parts, and the tuning that dump and live leave (this project's own).
 use Rattle.std.specs.Prelude.{◌<◌, nat_lt, ◌≡◌, ℕ, List, [], ◌∷◌, Bool, true, false, Option, Some, None, length}
 use Rattle.std.specs.List.{AllByRecursion}
 use Rattle.mt_base.specs.declared.event.Msg.TheVariants.{NoteOn, Control}

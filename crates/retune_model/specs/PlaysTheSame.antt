@@ -2,10 +2,9 @@
 --
 -- The music of a source and of an output is given as two lists of events, each in the order in which it is played: the events of
 -- one port. A file with one port is the list of all its events.
-use Rattle.std.specs.Prelude.{◌≡◌, ◌≢◌, ℕ, suc, ◌+◌, ℤ, List, [], ◌∷◌, ◌++◌, Bool, true, false, ◌&&◌, ◌||◌, not, nat_eq, nat_le, if◌then◌else◌, Option, Some, None, map, filter, length}
-use Rattle.mt_base.specs.declared.event.Msg.{Msg}
+use Rattle.std.specs.Prelude.{◌≡◌, ◌≢◌, ℕ, suc, ℤ, List, [], ◌∷◌, ◌++◌, Bool, true, false, ◌&&◌, not, nat_eq, nat_le, if◌then◌else◌, Option, Some, None, map, filter, length}
 use Rattle.mt_base.specs.declared.event.Msg.TheVariants.{NoteOn}
-use Rattle.mt_base.specs.Midi.{MidiWhat, Says, SysexOf, MetaOf, Timed, MidiEvent}
+use Rattle.mt_base.specs.Midi.{MidiWhat, Says, SysexOf, Timed, MidiEvent}
 use Rattle.mt_base.specs.Pitch.{Pitch, Within}
 use Rattle.midi_model.specs.FileText.{MidiFile}
 use Rattle.midi_model.specs.Merged.{merged, of_track, timed}
@@ -14,11 +13,11 @@ use Rattle.midi_model.specs.Params.{Parameter, value_of, rpn}
 use Rattle.midi_model.specs.Channel.{Channel}
 use Rattle.midi_model.specs.Zones.{governor}
 use Rattle.midi_model.specs.Notes.{Note, sounds}
-use Rattle.midi_model.specs.Music.{Music, channel_at}
+use Rattle.midi_model.specs.Music.{channel_at}
 use Rattle.midi_model.specs.Receiver.{Receiver, start, receive, after}
 use Rattle.midi_model.specs.Played.{played}
 use Rattle.retune_model.specs.Table.{Scaling, Bounds, BendTarget, bend_target}
-use Rattle.retune_model.specs.Options.{Route, ByDump, ByLive, ByBend, ByMpe, Options, bends_notes, is_drum_message, keeps_drums, is_retuned, bound}
+use Rattle.retune_model.specs.Options.{Route, Options, bends_notes, is_drum_message, keeps_drums, is_retuned, bound}
 use Rattle.retune_model.specs.Source.{source_pitch}
 
 -- two lists are equally long, and their elements agree in order

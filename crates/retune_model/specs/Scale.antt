@@ -1,7 +1,6 @@
 -- The pitch that a scale and a keyboard mapping give to a key (the Scala file formats, in this project's profile): without
 -- logarithms, by sums of ratios and of whole grains.
-use Rattle.std.specs.Prelude.{◌≡◌, ℕ, zero, suc, ◌+◌, ◌-◌, ◌*◌, ◌/◌, ◌%◌, ◌^◌, ◌⊎◌, ℤ, pos, negsuc, ◌-ℤ◌, ◌*ℤ◌, List, [], ◌∷◌, ◌++◌, Bool, true, false, ◌&&◌, nat_eq, nat_le, if◌then◌else◌, Option, Some, None, is_some, length, get_or, replicate}
-use Rattle.std.specs.List.{AllByRecursion}
+use Rattle.std.specs.Prelude.{◌≡◌, ℕ, zero, suc, ◌+◌, ◌-◌, ◌*◌, ◌/◌, ◌%◌, ◌^◌, ◌⊎◌, ℤ, pos, negsuc, ◌-ℤ◌, ◌*ℤ◌, List, [], ◌∷◌, ◌++◌, Bool, ◌&&◌, nat_eq, nat_le, if◌then◌else◌, Option, Some, None, is_some, length, get_or}
 use Rattle.mt_base.specs.Pitch.{Pitch, ratio, exactly, added, subtracted, times}
 
 -- an entry of a scale: a ratio, or nanocents

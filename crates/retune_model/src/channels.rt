@@ -4,6 +4,9 @@ ghost use Rattle.std.specs.Prelude.{◌≡◌, ◌<◌, ◌≤◌, ◌+◌, ℕ,
 ghost use Rattle.std.specs.List.{IsDistinct};
 ghost use Rattle.std.specs.Set.{is_member};
 ghost use Rattle.mt_base.specs.declared.pair.Pair.{Pair};
+ghost use Rattle.mt_base.specs.Midi.{MidiEvent};
+ghost use Rattle.midi_model.specs.Music.{quiet, play};
+ghost use Rattle.retune_model.specs.Numbered.{numbered, events_to, music_at};
 ghost use Rattle.retune_model.specs.Pairs.{is_same_pair};
 ghost use Rattle.retune_model.specs.Need.{IsNeed, ArePairs, IsValid, channels_used};
 ghost use Rattle.retune_model.specs.Runs.{since, begins, OneBegins, IsFree, TakesFree, TakesLowest, HoldUnbroken, place_of_note};
@@ -23,4 +26,10 @@ pub fn run_laws()
     ensures valid { (holds : ℕ → ℕ → Bool) (pair : ℕ → Pair) (notes : ℕ) (at : ℕ → List Pair) (last n : ℕ) (from row : ℕ → ℕ) → ArePairs is_same_pair holds pair notes at last → HoldUnbroken holds from notes last → OneBegins is_same_pair at last → TakesFree is_same_pair at last n row → IsValid holds pair notes last (place_of_note is_same_pair at row pair from) }
     ensures as_many { (holds : ℕ → ℕ → Bool) (pair : ℕ → Pair) (notes : ℕ) (at : ℕ → List Pair) (last n instant : ℕ) (from row : ℕ → ℕ) → ArePairs is_same_pair holds pair notes at last → IsNeed at last n instant → HoldUnbroken holds from notes last → OneBegins is_same_pair at last → TakesFree is_same_pair at last n row → channels_used (place_of_note is_same_pair at row pair from) notes ≡ n }
     ensures all_used { (at : ℕ → List Pair) (last n instant : ℕ) (row : ℕ → ℕ) → IsNeed at last n instant → IsDistinct is_same_pair (at instant) → OneBegins is_same_pair at last → TakesFree is_same_pair at last n row → (c : ℕ) → c < n → (p : Pair) × (is_member is_same_pair (at instant) p ≡ true) × (row (since is_same_pair at p instant) ≡ c) }
+{}
+
+/// In a file with one port, position k is the moment after the first k events.
+pub fn position_laws()
+    ensures events { (es : List MidiEvent) (k : ℕ) → events_to k (numbered es) ≡ take k es }
+    ensures music { (es : List MidiEvent) (k : ℕ) → music_at (numbered es) k ≡ play quiet (take k es) }
 {}

@@ -6,13 +6,13 @@ mod dump;
 mod examples;
 mod routes;
 
-pub use channels::{need_laws, run_laws};
+pub use channels::{need_laws, position_laws, run_laws};
 pub use dump::dump_is_playable;
 pub use examples::{
     bend_examples, fault_examples, output_examples, pair_examples, scale_examples, target_examples,
     zone_examples,
 };
 pub use routes::{
-    blocks_play_the_source, dump_plays_the_same, dump_plays_the_source, live_plays_the_source,
-    playable_in_order,
+    blocks_play_the_source, dump_plays_the_same, dump_plays_the_source, live_plays_the_same,
+    live_plays_the_source, playable_in_order,
 };

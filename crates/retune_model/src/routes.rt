@@ -15,8 +15,8 @@ ghost use Rattle.retune_model.specs.Table.{Scaling};
 ghost use Rattle.retune_model.specs.Options.{Options};
 ghost use Rattle.retune_model.specs.Faults.{Targets};
 ghost use Rattle.retune_model.specs.PlaysTheSame.{PlaysTheSameMusic, KeepsOtherEvents, KeepsDrums, HasSameShape, PlaysTheSame};
-ghost use Rattle.retune_model.specs.Dump.{dumped};
-ghost use Rattle.retune_model.specs.Dumpable.{IsDumpable};
+ghost use Rattle.retune_model.specs.Dump.{dumped, told_live};
+ghost use Rattle.retune_model.specs.Dumpable.{IsDumpable, IsLivable};
 ghost use Rattle.retune_model.specs.Plain.{ArePlain, IsTuned, IsTold, Reads, has_begun, told_after};
 
 /// Blocks whose groups aren't heard play the source's music: after each block, and within a block right after its source event.
@@ -45,6 +45,14 @@ pub fn dump_plays_the_same()
     ensures others { (scaling : Scaling) (o : Options) (table : Targets) (bytes : List ℕ) (es : List MidiEvent) → IsDumpable scaling o table bytes es → KeepsOtherEvents o es (dumped o bytes es) }
     ensures drums { (o : Options) (bytes : List ℕ) (es : List MidiEvent) → KeepsDrums o es (dumped o bytes es) }
     ensures file { (scaling : Scaling) (o : Options) (table : Targets) (bytes : List ℕ) (source out : MidiFile) → HasSameShape source out → merged out ≡ dumped o bytes (merged source) → IsDumpable scaling o table bytes (merged source) → PlaysTheSame scaling o table source out }
+{}
+
+/// The same for what the live route writes, with the bytes of a change of each key to its target.
+pub fn live_plays_the_same()
+    ensures music { (scaling : Scaling) (o : Options) (table : Targets) (change : ℕ → List ℕ) (es : List MidiEvent) → IsLivable scaling o table change es → PlaysTheSameMusic scaling o table es (told_live o change es) }
+    ensures others { (scaling : Scaling) (o : Options) (table : Targets) (change : ℕ → List ℕ) (es : List MidiEvent) → IsLivable scaling o table change es → KeepsOtherEvents o es (told_live o change es) }
+    ensures drums { (o : Options) (change : ℕ → List ℕ) (es : List MidiEvent) → KeepsDrums o es (told_live o change es) }
+    ensures file { (scaling : Scaling) (o : Options) (table : Targets) (change : ℕ → List ℕ) (source out : MidiFile) → HasSameShape source out → merged out ≡ told_live o change (merged source) → IsLivable scaling o table change (merged source) → PlaysTheSame scaling o table source out }
 {}
 
 /// The events of a list that can be played come in the order of their ticks.
