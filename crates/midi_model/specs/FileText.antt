@@ -1,4 +1,4 @@
--- A whole file, read from left to right, with its first fault.
+-- A whole file, read from left to right, with its first fault (Standard MIDI File 1.0; formats 0 and 1, at most 1,024 tracks).
 use Rattle.std.specs.Prelude.{ℕ, zero, suc, ◌+◌, ◌-◌, List, [], ◌∷◌, length, take, drop, map, ◌&&◌, ◌||◌, not, Result, Ok, Err, Option, Some, None, nat_lt, ◌==◌, if◌then◌else◌}
 use Rattle.std.specs.Int.{Width, w16, w32, byte_len, from_be_bytes}
 use Rattle.midi_model.specs.declared.fault.SmfKind.{SmfKind}

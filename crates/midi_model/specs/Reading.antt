@@ -1,4 +1,5 @@
--- Reading from left to right, with the first fault that is met. A fault says how many bytes are left where it stands.
+-- Reading from left to right, with the first fault that is met (Standard MIDI File 1.0; channel messages by the MIDI 1.0
+-- Detailed Specification). A fault says how many bytes are left where it stands.
 use Rattle.std.specs.Prelude.{◌≡◌, ◌<◌, ◌≤◌, ◌⊎◌, ℕ, zero, suc, ◌+◌, ◌-◌, ◌*◌, ◌^◌, List, [], ◌∷◌, length, take, drop, Bool, false, ◌&&◌, ◌||◌, Result, Ok, Err, Option, Some, None, nat_lt, ◌==◌, if◌then◌else◌}
 use Rattle.std.specs.Borrow.{Bor}
 use Rattle.midi_model.specs.declared.fault.SmfKind.{SmfKind}

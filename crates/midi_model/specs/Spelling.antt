@@ -1,4 +1,4 @@
--- What bytes spell, by cases.
+-- What bytes spell, by cases (Standard MIDI File 1.0; channel messages by the MIDI 1.0 Detailed Specification).
 use Rattle.std.specs.Prelude.{◌≡◌, ◌<◌, ◌≤◌, ◌⊎◌, ℕ, ◌+◌, ◌-◌, ◌*◌, ◌^◌, List, [], ◌∷◌, ◌++◌, length, true, false}
 use Rattle.mt_base.specs.declared.event.Msg.{Msg}
 use Rattle.mt_base.specs.Midi.{MidiWhat, Says, SysexOf, MetaOf, Timed, is_end}
