@@ -1,12 +1,12 @@
 -- What is left of each track of a merge.
-use Rattle.std.proofs.Common.{◌≡◌, ℕ, zero, suc, ◌+◌, ◌*◌, ◌%◌, ◌<◌, ◌≤◌, ◌^◌, List, [], ◌∷◌, length, map, set, get_or, take, Option, Some, None, refl, sym, ap, subst, ◌∙◌, inl, inr, arith}
+use Rattle.std.proofs.Common.{◌≡◌, ℕ, zero, suc, ◌+◌, ◌*◌, ◌%◌, ◌<◌, ◌≤◌, List, [], ◌∷◌, length, map, set, get_or, take, Some, None, refl, sym, ap, subst, ◌∙◌, arith}
 use Rattle.std.specs.Prelude.{All, Contains}
 use Rattle.std.specs.List.{AllByRecursion}
-use Rattle.std.proofs.lemmas.List.{map-set, get_or-map, get_or-take, length-map, length-take, get_or_default, get_or_past}
+use Rattle.std.proofs.lemmas.List.{map-set, get_or-map, length-map}
 use Rattle.std.proofs.lemmas.List.Elements.{recursion_from_All}
 use Rattle.mt_base.specs.Midi.{Timed, MidiEvent, placed}
 use Rattle.mt_base.specs.Valid.{IsValidEvent}
-use Rattle.midi_model.specs.Merged.{InOrder, IsTrackOf, AreTracksOf, merged_tracks, first_tick}
+use Rattle.midi_model.specs.Merged.{InOrder, AreTracksOf, merged_tracks, first_tick}
 use Rattle.midi_model.proofs.Merging.{each_weaker}
 use Rattle.event_stream.specs.Distributed.{timed}
 use Rattle.event_stream.specs.Keys.{key_of, keys_of, AreInOrder}

@@ -1,5 +1,5 @@
 -- The next event of each track, as a number: the least is the next of the merged order.
-use Rattle.std.specs.Prelude.{ℕ, suc, ◌+◌, ◌*◌, ◌<◌, ◌^◌, List, [], ◌∷◌, map}
+use Rattle.std.specs.Prelude.{ℕ, suc, ◌+◌, ◌*◌, List, [], ◌∷◌, map}
 use Rattle.mt_base.specs.Midi.{Timed, placed}
 use Rattle.midi_model.specs.Merged.{InOrder}
 

@@ -1,5 +1,5 @@
 -- What the streams of this crate mean: all their events, and those that are still to come.
-use Rattle.std.specs.Prelude.{ℕ, List, map, drop}
+use Rattle.std.specs.Prelude.{List, map, drop}
 use Rattle.mt_base.specs.Midi.{MidiEvent, view}
 use Rattle.event_stream.specs.declared.list.ListStream.{ListStream}
 

@@ -1,4 +1,4 @@
-use Rattle.std.proofs.Common.{◌≡◌, ◌<◌, ◌≤◌, length, arith, ap, sym, ◌∙◌, take}
+use Rattle.std.proofs.Common.{◌<◌, ◌≤◌, length, arith, ap, sym, ◌∙◌, take}
 use Rattle.std.proofs.lemmas.List.{length-set, take_all}
 use Rattle.event_stream.specs.Keys.{keys_of}
 use Rattle.event_stream.specs.Merges.{untracked, parts_left}

@@ -1,5 +1,4 @@
-use Rattle.std.proofs.Common.{◌≡◌, length, map, take}
-use Rattle.smf_read.specs.Remaining.{remaining}
+use Rattle.std.proofs.Common.{◌≡◌, length, take}
 use Rattle.event_stream.specs.Keys.{keys_of}
 use Rattle.event_stream.specs.Merges.{untracked, parts_left}
 use Rattle.event_stream.proofs.merge.keys_of.Given as goal

@@ -1,4 +1,4 @@
-use Rattle.std.proofs.Common.{◌≡◌, ◌<◌, [], length, map, get_or, arith, ap, sym, ◌∙◌}
+use Rattle.std.proofs.Common.{◌<◌, [], length, map, get_or, arith, ap, sym, ◌∙◌}
 use Rattle.std.proofs.lemmas.List.{length-set, length-map, get_or-map}
 use Rattle.smf_read.specs.Remaining.{remaining, all_of}
 use Rattle.event_stream.proofs.Cursors.{one_more_of, same_of}

@@ -1,4 +1,4 @@
-use Rattle.std.proofs.Common.{◌≡◌, [], length, map, set, get_or, ap, sym, ◌∙◌}
+use Rattle.std.proofs.Common.{[], map, set, ap, sym, ◌∙◌}
 use Rattle.std.proofs.lemmas.List.{map-set, get_or-map}
 use Rattle.smf_read.specs.Remaining.{remaining, all_of}
 use Rattle.event_stream.proofs.Cursors.{some_at, written_of, same_of}

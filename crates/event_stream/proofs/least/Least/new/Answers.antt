@@ -1,4 +1,4 @@
-use Rattle.std.proofs.Common.{◌≡◌, ◌-◌, ◌∙◌, arith, refl, sym, replicate, take, drop, ap}
+use Rattle.std.proofs.Common.{◌-◌, ◌∙◌, arith, take, ap}
 use Rattle.std.proofs.lemmas.List.{take-replicate, drop-replicate}
 use Rattle.event_stream.proofs.Trees.{all_equal}
 use Rattle.event_stream.proofs.least.Least.new.Goals as goal

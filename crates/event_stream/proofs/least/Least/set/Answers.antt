@@ -1,4 +1,4 @@
-use Rattle.std.proofs.Common.{◌≡◌, ◌≤◌, ◌*◌, ℕ, length, arith, ◌∙◌}
+use Rattle.std.proofs.Common.{◌≤◌, ◌*◌, length, arith}
 use Rattle.event_stream.proofs.Trees.{least_of, among_them}
 use Rattle.event_stream.proofs.least.Least.set.Goals as goal
 

@@ -1,7 +1,5 @@
-use Rattle.std.proofs.Common.{◌≡◌, ◌≤◌, ◌<◌, ℕ, [], length, map, get_or, Option, Some, None, arith, ap, sym, subst, refl, ◌∙◌}
+use Rattle.std.proofs.Common.{[], map, get_or, ap, sym, refl, ◌∙◌}
 use Rattle.smf_read.specs.Remaining.{remaining}
-use Rattle.event_stream.specs.Merges.{parts_left, merged_left}
-use Rattle.event_stream.proofs.Parts.{Found}
 use Rattle.event_stream.proofs.Cursors.{merge_found, found_in, in_table, in_keys, Stepped, merge_next, rest_next, never_none, nothing_left, some_at}
 use Rattle.event_stream.proofs.merge.MergeEventStream.next.Goals as goal
 
