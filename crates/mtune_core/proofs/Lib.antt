@@ -3,3 +3,4 @@ pub mod Distributes
 pub mod Lengths
 pub mod DumpOutput
 pub mod SurveyFacts
+pub mod Made

@@ -1,13 +1,24 @@
 -- What the call answers.
-use Rattle.std.specs.Prelude.{ℕ, length, false, Some, None}
-use Rattle.std.specs.declared.option.Option.{Option}
-use Rattle.midi_model.specs.FileText.{MidiFile}
+use Rattle.std.specs.Prelude.{ℕ, ◌≡◌, ◌<◌, ◌⊎◌, ◌^◌, List, length, map, get_or, All, Bool, true, false, count_by, Err, Option, Some, None, is_some}
+use Rattle.std.specs.List.{AllByRecursion}
+use Rattle.mt_base.specs.Midi.{MidiEvent}
+use Rattle.midi_model.specs.FileText.{MidiFile, file_at}
 use Rattle.midi_model.specs.Merged.{merged}
+use Rattle.midi_model.specs.Spelling.{Spells}
+use Rattle.midi_model.specs.TuningBytes.{dump_bytes}
+use Rattle.midi_model.specs.Writing.{Written, written, file_bytes}
 use Rattle.event_stream.specs.Distributed.{distributed}
+use Rattle.retune_model.specs.PlaysTheSame.{begins_note}
+use Rattle.retune_model.specs.Faults.{is_part}
+use Rattle.retune_model.specs.Dump.{dumped, sounding_parts}
 use Rattle.retune_model.specs.Routes.{Setup}
 use Rattle.mtune_core.specs.declared.outcome.Fault.{Fault}
-use Rattle.mtune_core.specs.declared.outcome.Fault.TheVariants.{Store, Say}
+use Rattle.mtune_core.specs.declared.outcome.Fault.TheVariants.{NotYet, Smf, Store, Say, Memory}
+use Rattle.mtune_core.specs.declared.survey.Survey.{Survey}
 use Rattle.mtune_core.specs.Status.{status_of}
+use Rattle.mtune_core.specs.Source.{is_taken}
+use Rattle.mtune_core.specs.Chosen.{dump_options, uses_key}
+use Rattle.mtune_core.specs.Lines.{report_text}
 use Rattle.mtune_core.specs.Putting.{written_from}
 
 -- 0, or the status of the fault
@@ -21,6 +32,57 @@ IsEarly Store = ⊥
 IsEarly Say = ⊥
 IsEarly _ = Unit {0}
 
--- the output of a source with a setup: the same format, division and number of tracks, with the events that are put
+-- ---- the output
+
+-- the same format, division and number of tracks, with other events
+abbrev pub with_events : MidiFile → List MidiEvent → MidiFile
+with_events source es = record { format = source.format; division = source.division; tracks = distributed (length source.tracks) es }
+
+-- the output of a source with a setup
 abbrev pub output_file : Setup → MidiFile → MidiFile
-output_file s source = record { format = source.format; division = source.division; tracks = distributed (length source.tracks) (written_from s false (merged source)) }
+output_file s source = with_events source (written_from s false (merged source))
+
+-- The output of the dump route for a source, where these are the targets of the 128 keys.
+abbrev pub dumped_file : List (Option ℕ) → MidiFile → MidiFile
+dumped_file targets source = with_events source (dumped dump_options (dump_bytes 0 targets) (merged source))
+
+-- whatever the setup, each track fits in its chunk
+abbrev pub AreShort : MidiFile → Type 0
+AreShort source = (bytes : List ℕ) × Spells bytes source × (length bytes < 4194305)
+
+-- ---- the report
+
+-- of the retuned notes, and of the channels that they are on
+abbrev pub report_of : List MidiEvent → List ℕ
+report_of es = report_text (count_by (λ e. begins_note (is_part dump_options) e.what) es) (length (sounding_parts dump_options es))
+
+-- ---- what is refused
+
+-- a key that is used and has no target
+abbrev pub IsUnplayed : List (Option ℕ) → List Bool → ℕ → Type 0
+IsUnplayed targets keys k = (k < 128) × (get_or keys k false ≡ true) × (get_or targets k None ≡ None)
+
+abbrev pub ArePlayed : List (Option ℕ) → List Bool → Type 0
+ArePlayed targets keys = (k : ℕ) → k < 128 → get_or keys k false ≡ true → is_some (get_or targets k None) ≡ true
+
+-- an event that isn't taken; or each is, and some key that is used has no target
+abbrev pub IsRefusal : List (Option ℕ) → Survey → Fault → Type 0
+IsRefusal targets found (NotYet kind) = ((kind ≡ 2) × (found.taken ≡ false)) ⊎ ((kind ≡ 3) × (found.taken ≡ true) × ((k : ℕ) × IsUnplayed targets found.keys k))
+IsRefusal targets found _ = ⊥
+
+-- the first fault of the input, or want of memory
+abbrev pub IsInputFault : List ℕ → Fault → Type 0
+IsInputFault input (Smf offset kind) = file_at input ≡ Err (offset, kind)
+IsInputFault input Memory = Unit {0}
+IsInputFault input _ = ⊥
+
+-- ---- what is made
+
+-- The output and the report that an input gives, where these are the targets of the 128 keys.
+pub record IsMade (targets : List (Option ℕ)) (input output report : List ℕ) : Type 0 where
+  pub source : MidiFile
+  pub spelled : Spells input source
+  pub taken : AllByRecursion (λ e. is_taken e.what ≡ true) (merged source)
+  pub played : (k : ℕ) → k < 128 → uses_key k (merged source) ≡ true → is_some (get_or targets k None) ≡ true
+  pub is_output : output ≡ file_bytes (dumped_file targets source)
+  pub is_report : report ≡ report_of (merged source)

@@ -1,4 +1,7 @@
-ghost use Rattle.std.specs.Prelude.{◌≤◌, length, IfOk};
+ghost use Rattle.std.specs.Prelude.{◌≤◌, length, IfOk, IfErr};
+ghost use Rattle.midi_model.specs.Spelling.{Spells};
+ghost use Rattle.smf_read.specs.Files.{view_file};
+ghost use Rattle.mtune_core.specs.Answers.{IsInputFault};
 
 use crate::outcome::Fault;
 use mtune_files::{Files, LoadFault, Which};
@@ -44,6 +47,8 @@ pub fn read_scale(alloc: Global, text: &[u8]) -> Result<Scale, Fault>
 /// The file of an input.
 pub fn read_input(alloc: Global, bytes: &[u8]) -> Result<Smf<'_>, Fault>
     requires { length bytes.now ≤ 4194304 }
+    ensures found { IfOk result (λ smf. Spells bytes.entry.now (view_file smf)) }
+    ensures fault { IfErr result (λ e. IsInputFault bytes.entry.now e) }
 {
     match read_smf(alloc, bytes) {
         Ok(smf) => Ok(smf),

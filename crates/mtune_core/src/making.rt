@@ -1,8 +1,11 @@
-ghost use Rattle.std.specs.Prelude.{◌≡◌, ◌<◌, ◌≤◌, ◌^◌, false, map, length, All, IfOk, count_by};
+ghost use Rattle.std.specs.Prelude.{◌≡◌, ◌<◌, ◌≤◌, ◌^◌, false, true, map, length, All, IfOk, IfErr, IfSome, IfNone, count_by};
 ghost use Rattle.midi_model.specs.Merged.{merged, IsPlayable};
 ghost use Rattle.midi_model.specs.Writing.{Written, written, file_bytes};
 ghost use Rattle.smf_read.specs.Files.{view_file};
-ghost use Rattle.mtune_core.specs.Answers.{output_file};
+ghost use Rattle.std.specs.List.{AllByRecursion};
+ghost use Rattle.midi_model.specs.TuningBytes.{IsTuningValue};
+ghost use Rattle.mtune_core.specs.Answers.{output_file, dumped_file, report_of, IsUnplayed, ArePlayed, AreShort, IsRefusal, IsMade};
+ghost use Rattle.mtune_core.specs.Survey.{survey_of};
 ghost use Rattle.mtune_core.specs.Putting.{written_from, view_setup};
 
 use crate::contents::read_input;
@@ -28,14 +31,17 @@ pub struct Made {
     pub report: Vec<u8>,
 }
 
-/// Whether each key that is used has a target.
-fn are_played(keys: &[bool; 128], targets: &Targets) -> bool {
+/// The least key that is used and has no target.
+fn unplayed(keys: &[bool; 128], targets: &Targets) -> Option<usize>
+    ensures some { IfSome result (λ k. IsUnplayed targets.now keys.now k) }
+    ensures none { IfNone result (ArePlayed targets.now keys.now) }
+{
     for key in 0..128usize {
         if keys[key] && targets[key].is_none() {
-            return false;
+            return Some(key);
         }
     }
-    true
+    None
 }
 
 /// How many of the parts there are.
@@ -46,15 +52,21 @@ fn count(parts: &[bool; 16]) -> u32
 }
 
 /// The survey of a source, where it is taken and the device can play it.
-fn accept(smf: &Smf<'_>, targets: &Targets) -> Result<Survey, Fault> {
+fn accept(smf: &Smf<'_>, targets: &Targets) -> Result<Survey, Fault>
+    ensures found { IfOk result (λ f. f ≡ survey_of (merged (view_file smf.now))) }
+    ensures taken { IfOk result (λ f. f.taken ≡ true) }
+    ensures played { IfOk result (λ f. ArePlayed targets.now f.keys) }
+    ensures playable { IfOk result (λ f. IsPlayable (length (view_file smf.now).tracks) (merged (view_file smf.now))) }
+    ensures refused { IfErr result (λ e. IsRefusal targets.now (survey_of (merged (view_file smf.now))) e) }
+{
     let found = look_through(&mut Merge::new(smf));
     if !found.taken {
         return Err(Fault::NotYet { kind: 2 });
     }
-    if !are_played(&found.keys, targets) {
-        return Err(Fault::NotYet { kind: 3 });
+    match unplayed(&found.keys, targets) {
+        Some(_) => Err(Fault::NotYet { kind: 3 }),
+        None => Ok(found),
     }
-    Ok(found)
 }
 
 /// The bytes of the output of a source with a setup.
@@ -71,18 +83,43 @@ fn output(alloc: Global, smf: &Smf<'_>, setup: &Setup) -> Result<Vec<u8>, Memory
     finish(alloc, smf.format(), smf.division(), out.into_tracks())
 }
 
-/// What an input gives in a scale with these targets.
-pub fn retuned(alloc: Global, targets: &Targets, input: &[u8]) -> Result<Made, Fault>
-    requires { length input.now ≤ 4194304 }
+/// The output and the report of a source that was accepted.
+fn make(alloc: Global, smf: &Smf<'_>, targets: &Targets, found: &Survey) -> Result<Made, Fault>
+    requires values { AllByRecursion IsTuningValue targets.now }
+    requires found { found.now ≡ survey_of (merged (view_file smf.now)) }
+    requires playable { IsPlayable (length (view_file smf.now).tracks) (merged (view_file smf.now)) }
+    requires format { (view_file smf.now).format ≤ 1 }
+    requires one { (view_file smf.now).format ≡ 0 → length (view_file smf.now).tracks ≡ 1 }
+    requires short { AreShort (view_file smf.now) }
+    ensures output { IfOk result (λ made. made.output.items ≡ file_bytes (dumped_file targets.now (view_file smf.now))) }
+    ensures report { IfOk result (λ made. made.report.items ≡ report_of (merged (view_file smf.now))) }
+    ensures memory { IfErr result (λ e. e ≡ Fault.Memory) }
 {
-    let smf = read_input(alloc, input)?;
-    let found = accept(&smf, targets)?;
     let setup = Setup {
         parts: found.parts,
         dump: dump(PROGRAM, targets),
         program: PROGRAM,
     };
-    let output = output(alloc, &smf, &setup).map_err(|_| Fault::Memory)?;
-    let report = report(alloc, found.notes, count(&found.parts)).map_err(|_| Fault::Memory)?;
+    let Ok(output) = output(alloc, smf, &setup) else {
+        return Err(Fault::Memory);
+    };
+    let Ok(report) = report(alloc, found.notes, count(&found.parts)) else {
+        return Err(Fault::Memory);
+    };
     Ok(Made { output, report })
+}
+
+/// What an input gives in a scale with these targets.
+pub fn retuned(alloc: Global, targets: &Targets, input: &[u8]) -> Result<Made, Fault>
+    requires len { length input.now ≤ 4194304 }
+    requires values { AllByRecursion IsTuningValue targets.now }
+    ensures made { IfOk result (λ made. IsMade targets.now input.now made.output.items made.report.items) }
+{
+    match read_input(alloc, input) {
+        Err(fault) => Err(fault),
+        Ok(smf) => match accept(&smf, targets) {
+            Err(fault) => Err(fault),
+            Ok(found) => make(alloc, &smf, targets, &found),
+        },
+    }
 }

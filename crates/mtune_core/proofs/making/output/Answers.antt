@@ -18,11 +18,15 @@ translate-requires c = λ k.
     let file = view_file c.args.smf.now in
     let s = view_setup c.args.setup.now in
     let n = length file.tracks in
-    let out : c.in_ok-out.out ≡ map written (distributed n []) = c.in_ok-out.ensures.stands ∙ ap (λ (k : ℕ). map written (distributed k [])) c.tracks.ensures.value in
-    ((refl, tt), (c.requires.program,
-    subst (λ (w : List Written). AllMayPut w (written_from s false c.new-2.result.all)) (sym out)
-    (subst (λ (l : List MidiEvent). AllMayPut (map written (distributed n [])) (written_from s false l)) (sym c.new-2.ensures.all)
-    (may_all n (written_from s false (merged file)) c.requires.playable))))
+    let out : c.in_ok-out.out ≡ map written (distributed n []) = c.in_ok-out.ensures.stands ∙ ap (λ (k : ℕ). map written (distributed k [])) c.tracks.ensures.value in (
+      (refl, tt),
+      (
+        c.requires.program,
+        subst (λ (w : List Written). AllMayPut w (written_from s false c.new-2.result.all)) (sym out)
+            (subst (λ (l : List MidiEvent). AllMayPut (map written (distributed n [])) (written_from s false l)) (sym c.new-2.ensures.all)
+            (may_all n (written_from s false (merged file)) c.requires.playable)),
+      ),
+    )
 
 texts : (k n : ℕ) (s : Setup) (all es : List MidiEvent) (new out items : List Written) → new ≡ map written (distributed k []) → k ≡ n → all ≡ es
     → out ≡ put_all new (written_from s false all) → items ≡ out → IsPlayable n (written_from s false es) → items ≡ map written (distributed n (written_from s false es))
@@ -40,7 +44,7 @@ finish-requires c =
     let n = length file.tracks in
     let es = written_from s false (merged file) in
     let text : c.into_tracks.result.items ≡ map written (distributed n es) =
-          texts c.tracks.result n s c.new-2.result.all (merged file) c.in_ok-out.out c.translate.new.out c.into_tracks.result.items c.in_ok-out.ensures.stands c.tracks.ensures.value c.new-2.ensures.all c.in_ok-translate.ensures c.into_tracks.ensures.tracks c.requires.playable in
+    texts c.tracks.result n s c.new-2.result.all (merged file) c.in_ok-out.out c.translate.new.out c.into_tracks.result.items c.in_ok-out.ensures.stands c.tracks.ensures.value c.new-2.ensures.all c.in_ok-translate.ensures c.into_tracks.ensures.tracks c.requires.playable in
     let len : length c.into_tracks.result.items ≡ n = ap length text ∙ length-map (distributed n es) written ∙ length_dealt 0 n es in
     record {
       one_or_more = omega (arith, len, c.tracks.ensures.some, c.tracks.ensures.value);
@@ -60,7 +64,7 @@ returns c =
     let n = length file.tracks in
     let ts = distributed n (written_from s false (merged file)) in
     let text : c.into_tracks.result.items ≡ map written ts =
-          texts c.tracks.result n s c.new-2.result.all (merged file) c.in_ok-out.out c.translate.new.out c.into_tracks.result.items c.in_ok-out.ensures.stands c.tracks.ensures.value c.new-2.ensures.all c.in_ok-translate.ensures c.into_tracks.ensures.tracks c.requires.playable in
+    texts c.tracks.result n s c.new-2.result.all (merged file) c.in_ok-out.out c.translate.new.out c.into_tracks.result.items c.in_ok-out.ensures.stands c.tracks.ensures.value c.new-2.ensures.all c.in_ok-translate.ensures c.into_tracks.ensures.tracks c.requires.playable in
     subst (λ (f : ℕ). IfOk c.finish.result (λ v. v.items ≡ file_bytes (record { format = f; division = file.division; tracks = ts }))) c.format.ensures
     (subst (λ (d : ℕ). IfOk c.finish.result (λ v. v.items ≡ file_bytes (record { format = c.format.result; division = d; tracks = ts }))) c.division.ensures
     (c.finish.ensures.bytes ts text))

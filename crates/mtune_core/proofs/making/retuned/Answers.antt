@@ -1,0 +1,4 @@
+use Rattle.mtune_core.proofs.making.retuned.Goals as goal
+
+pub returns : goal.returns
+returns c = ?
