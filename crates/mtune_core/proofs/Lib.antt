@@ -1,3 +1,4 @@
 pub mod Puts
 pub mod DumpOutput
 pub mod SurveyFacts
+pub mod Faultless
