@@ -218,7 +218,7 @@ clean_message m t msg h clean c p =
     (keep_set (λ s. s.params ≡ []) m.channels (channel_of msg) c (apply (channel_at m (channel_of msg)) msg) default_channel (clean c p)
     (λ e. let q : is_part dump_options (channel_of msg) ≡ true = ap (is_part dump_options) (sym e) ∙ p in apply_params (channel_at m (channel_of msg)) msg h q ∙ clean (channel_of msg) q))
 
-clean_sysex : (m : Music) (t : ℕ) (f1 reset : Bool) (r : Option Retune) → Clean m → Clean (advance t (cond f1 (cond reset Resets (tunes r)) Nothing) m)
+clean_sysex : (m : Music) (t : ℕ) (leads reset : Bool) (r : Option Retune) → Clean m → Clean (advance t (cond leads (cond reset Resets (tunes r)) Nothing) m)
 clean_sysex m t false reset r clean = clean
 clean_sysex m t true true r clean = clean_quiet
 clean_sysex m t true false None clean = clean
@@ -296,8 +296,7 @@ what_fine table m after t (MetaOf kind bytes) h targets clean = ap (λ b. cond b
 faultless_from : (table : Targets) (m : Music) (es : List MidiEvent) → AllByRecursion (λ e. is_taken e.what ≡ true) es → ((k t : ℕ) → uses_key k es ≡ true → HasTarget table k t) → Clean m → IsFaultless dump_options table m es
 faultless_from table m [] taken targets clean = tt
 faultless_from table m (e ∷ es) taken targets clean =
-    let next : Clean (step m e) = clean_what m e.tick e.what taken.0 clean in
-    (
+    let next : Clean (step m e) = clean_what m e.tick e.what taken.0 clean in (
       what_fine table m (step m e) e.tick e.what taken.0 (λ k h. targets k e.tick (or_left (is_on_key k (note_on e.what)) (uses_key k es) h)) next,
       faultless_from table (step m e) es taken.1 (λ k t h. targets k t (or_right (is_on_key k (note_on e.what)) (uses_key k es) h)) next,
     )
