@@ -15,8 +15,8 @@ setup_same : (s : Setup) (e : MidiEvent) → setup_if true s e ≡ all_events (s
 setup_same s e = sym (all_append (sends e.tick e.track s.dumps) (selects e.tick e.track s.program s.channels))
 
 -- an event that is no message, by what its bytes are
-before_other : (s : Setup) (b : Bool) (e : MidiEvent) (f1 reset : Bool) (r : Option Retune)
-    → setup_if (not b && false) s e ≡ all_events (dump_before s b e (cond f1 (cond reset Resets (tunes r)) Nothing))
+before_other : (s : Setup) (b : Bool) (e : MidiEvent) (leads reset : Bool) (r : Option Retune)
+    → setup_if (not b && false) s e ≡ all_events (dump_before s b e (cond leads (cond reset Resets (tunes r)) Nothing))
 before_other s true e false reset r = refl
 before_other s true e true true r = refl
 before_other s true e true false None = refl
@@ -32,8 +32,8 @@ before_same s true e (Says m) = refl
 before_same s b e (SysexOf lead bytes) = before_other s b e (nat_eq lead 240) (is_reset bytes) (tuning_of bytes)
 before_same s b e (MetaOf kind bytes) = before_other s b e false false None
 
-behind_other : (s : Setup) (b : Bool) (e : MidiEvent) (f1 reset : Bool) (r : Option Retune)
-    → setup_if (b && (f1 && reset)) s e ≡ all_events (dump_behind s b e (cond f1 (cond reset Resets (tunes r)) Nothing))
+behind_other : (s : Setup) (b : Bool) (e : MidiEvent) (leads reset : Bool) (r : Option Retune)
+    → setup_if (b && (leads && reset)) s e ≡ all_events (dump_behind s b e (cond leads (cond reset Resets (tunes r)) Nothing))
 behind_other s true e false reset r = refl
 behind_other s true e true true r = setup_same s e
 behind_other s true e true false None = refl
@@ -50,7 +50,7 @@ behind_same s b e (SysexOf lead bytes) = behind_other s b e (nat_eq lead 240) (i
 behind_same s true e (MetaOf kind bytes) = refl
 behind_same s false e (MetaOf kind bytes) = refl
 
-next_other : (b f1 reset : Bool) (r : Option Retune) → (b || false) ≡ dump_next b (cond f1 (cond reset Resets (tunes r)) Nothing)
+next_other : (b leads reset : Bool) (r : Option Retune) → (b || false) ≡ dump_next b (cond leads (cond reset Resets (tunes r)) Nothing)
 next_other true false reset r = refl
 next_other true true true r = refl
 next_other true true false None = refl

@@ -4,3 +4,4 @@ pub mod Lengths
 pub mod DumpOutput
 pub mod SurveyFacts
 pub mod Made
+pub mod Faultless

@@ -1,4 +1,4 @@
--- What the program asks for: the dump route with program 1, and drums kept. The bend sensitivity has no part in that route.
+-- What the program asks for: the dump route with program 0, and drums kept. The bend sensitivity has no part in that route.
 use Rattle.std.specs.Prelude.{ℕ, List, [], ◌∷◌, Bool, true, false, ◌||◌, nat_eq, Option, Some, None}
 use Rattle.mt_base.specs.Midi.{MidiEvent}
 use Rattle.retune_model.specs.Options.{Options, ByDump}

@@ -199,7 +199,7 @@ asks_none o m c n v EntryHigh h = pick (target (channel_at m c).selection) refl
     pick ZoneSize e = edge (nat_eq c 0 || nat_eq c 15) refl (zone_selected (channel_at m c).selection e)
     pick (Value p) e = refl
 
-message_asks_none : (o : Options) (m : Music) (msg : Msg) → is_zone_entry o m msg ≡ false → asks m msg ≡ None
+pub message_asks_none : (o : Options) (m : Music) (msg : Msg) → is_zone_entry o m msg ≡ false → asks m msg ≡ None
 message_asks_none o m (Control c n v) h = asks_none o m c n v (role n) h
 message_asks_none o m (NoteOn c k v) h = refl
 message_asks_none o m (NoteOff c k v) h = refl
