@@ -1,5 +1,5 @@
 -- The tracks of the output are short enough to be written.
-use Rattle.std.proofs.Common.{◌≡◌, ℕ, zero, suc, ◌+◌, ◌*◌, ◌^◌, ◌<◌, ◌≤◌, List, [], ◌∷◌, ◌++◌, length, map, filter, get_or, Bool, true, false, eqb, ap, ◌∙◌, arith, inl, inr}
+use Rattle.std.proofs.Common.{◌≡◌, ℕ, zero, suc, ◌+◌, ◌*◌, ◌^◌, ◌<◌, ◌≤◌, List, [], ◌∷◌, ◌++◌, length, map, get_or, Bool, true, false, eqb, ap, ◌∙◌, arith, inl, inr}
 use Rattle.std.specs.Prelude.{All}
 use Rattle.std.specs.List.{AllByRecursion}
 use Rattle.std.proofs.lemmas.Bool.{cases_Bool}
@@ -8,7 +8,7 @@ use Rattle.std.proofs.lemmas.List.Elements.{All-nil, All-cons, filter-append}
 use Rattle.mt_base.specs.Midi.{Timed, MidiEvent}
 use Rattle.midi_model.specs.FileText.{MidiFile}
 use Rattle.midi_model.specs.Spelling.{Spells}
-use Rattle.midi_model.specs.Writing.{Written, written, track_bytes, most_bytes}
+use Rattle.midi_model.specs.Writing.{Written, written, most_bytes}
 use Rattle.midi_model.specs.Merged.{of_track, merged}
 use Rattle.midi_model.proofs.Merging.{of_track_merged, track_in_place}
 use Rattle.midi_model.proofs.Playing.{spelled_tracks}
