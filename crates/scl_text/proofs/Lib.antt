@@ -5,3 +5,4 @@ pub mod Values
 pub mod Counts
 pub mod Scales
 pub mod Answered
+pub mod NoForms

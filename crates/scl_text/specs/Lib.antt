@@ -6,3 +6,4 @@ pub mod Kinds
 pub mod Forms
 pub mod Spelling
 pub mod Worked
+pub mod BadPitch

@@ -3,7 +3,8 @@ ghost use Rattle.scala_lines.specs.Lines.{lines_of};
 ghost use Rattle.scl_text.specs.declared.entry.Entry.{Entry};
 ghost use Rattle.scl_text.specs.declared.fault.SclKind.{SclKind};
 ghost use Rattle.scl_text.specs.Reading.{scale_of, fault};
-ghost use Rattle.scl_text.specs.Spelling.{ScaleText, ScaleFault};
+ghost use Rattle.scl_text.specs.Spelling.{ScaleText, ScaleFault, PitchFault};
+ghost use Rattle.scl_text.specs.BadPitch.{HasNoForm};
 ghost use Rattle.scl_text.specs.Worked.{four_entries, four_values, bare_negative, three_pitches, crlf};
 
 /// Each text has one scale or one first fault, and never both.
@@ -13,6 +14,14 @@ pub fn one_answer()
     ensures one_scale { (lines : List (List ℕ)) (es fs : List Entry) → ScaleText lines es → ScaleText lines fs → es ≡ fs }
     ensures one_fault { (lines : List (List ℕ)) (a b : ℕ) (j k : SclKind) → ScaleFault lines a j → ScaleFault lines b k → (a ≡ b) × (j ≡ k) }
 {}
+
+/// A pitch line is bad exactly where, behind the blanks and a minus sign or none, there stands neither a digit nor a
+/// period with a digit after it, or there stand digits and a slash without a digit after it.
+pub fn bad_pitch()
+    ensures only { (line : List ℕ) → PitchFault line SclKind.BadPitch → HasNoForm line }
+    ensures every { (line : List ℕ) → HasNoForm line → PitchFault line SclKind.BadPitch }
+{
+}
 
 /// Texts that the definitions were tried on: four entries with a comment, text behind values and a last line without
 /// LF; the same with CR LF; a last line that is a negative number alone; no last line; no text.
