@@ -1,0 +1,6 @@
+pub mod Results
+pub mod Entries
+pub mod Fields
+pub mod Frequencies
+pub mod Maps
+pub mod Answered

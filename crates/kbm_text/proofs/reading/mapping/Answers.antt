@@ -1,0 +1,19 @@
+use Rattle.std.proofs.Common.{arith}
+use Rattle.kbm_text.proofs.Maps.{as_many, degrees}
+use Rattle.kbm_text.proofs.reading.mapping.Goals as goal
+
+pub invariant_of-result : goal.invariant_of-result
+invariant_of-result c =
+    let many = as_many _ _ _ c.in_ok-entries.ensures in
+    let n = c.in_ok-entries.entries.ok in
+    record {
+      in_order = c.in_ok-keys.ensures.in_order;
+      last_key = c.in_ok-keys.ensures.last;
+      middle_key = c.in_ok-keys.ensures.middle;
+      reference_key = c.in_ok-keys.ensures.reference;
+      sounds = c.in_ok-nanohertz.ensures.low;
+      frequency = c.in_ok-nanohertz.ensures.high;
+      octave_degree = c.in_ok-octave.ensures.high;
+      few = omega (arith, many, n, c.in_ok-size.ensures.high);
+      degrees = degrees _ _ _ c.in_ok-entries.ensures;
+    }

@@ -1,0 +1,9 @@
+pub mod Kinds
+pub mod Map
+pub mod Field
+pub mod Reading
+pub mod Answers
+pub mod Ranges
+pub mod Views
+pub mod Spelling
+pub mod Worked

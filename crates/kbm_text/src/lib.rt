@@ -1,0 +1,16 @@
+//! Keyboard mapping texts of the Scala file format, read exactly.
+#![tactic(auto)]
+
+mod fault;
+mod field;
+mod laws;
+mod mapping;
+mod reading;
+
+pub use fault::{KbmFault, KbmKind};
+pub use laws::{one_answer, worked_texts};
+pub use mapping::Mapping;
+pub use reading::read_kbm;
+
+#[cfg(test)]
+mod tests;
