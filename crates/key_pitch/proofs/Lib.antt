@@ -1,0 +1,6 @@
+pub mod Signs
+pub mod Bounds
+pub mod Sums
+pub mod Steps
+pub mod Placed
+pub mod Few

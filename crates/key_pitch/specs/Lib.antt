@@ -1,0 +1,4 @@
+pub mod Views
+pub mod Sums
+pub mod Tables
+pub mod Causes

@@ -1,0 +1,13 @@
+//! The pitch that a scale gives to each key, and the nearest pitch that a device can be told of.
+#![tactic(auto)]
+
+mod aim;
+mod fault;
+mod keys;
+
+mod sum;
+
+
+pub use aim::Aim;
+pub use fault::TuneFault;
+
