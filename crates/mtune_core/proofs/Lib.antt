@@ -5,3 +5,4 @@ pub mod DumpOutput
 pub mod SurveyFacts
 pub mod Made
 pub mod Faultless
+pub mod Fits

@@ -1,7 +1,7 @@
-ghost use Rattle.std.specs.Prelude.{◌≤◌, length, IfOk, IfErr};
+ghost use Rattle.std.specs.Prelude.{◌≡◌, ◌≤◌, length, IfOk, IfErr};
 ghost use Rattle.midi_model.specs.Spelling.{Spells};
 ghost use Rattle.smf_read.specs.Files.{view_file};
-ghost use Rattle.mtune_core.specs.Answers.{IsInputFault};
+ghost use Rattle.mtune_core.specs.Answers.{IsEarly, IsInputFault};
 
 use crate::outcome::Fault;
 use mtune_files::{Files, LoadFault, Which};
@@ -23,7 +23,10 @@ pub fn load<F: Files>(
     name: &str,
     limit: u32,
 ) -> Result<Vec<u8>, Fault>
-    ensures { IfOk result (λ v. length v.items ≤ limit) }
+    ensures short { IfOk result (λ v. length v.items ≤ limit) }
+    ensures early { IfErr result IsEarly }
+    ensures held { F.held files.new ≡ F.held files.old }
+    ensures said { F.said files.new ≡ F.said files.old }
 {
     match files.load(alloc, which, name, limit) {
         Ok(content) => Ok(content),
@@ -36,6 +39,7 @@ pub fn load<F: Files>(
 /// The scale of a text.
 pub fn read_scale(alloc: Global, text: &[u8]) -> Result<Scale, Fault>
     requires { length text.now ≤ 262144 }
+    ensures early { IfErr result IsEarly }
 {
     match read_scl(alloc, text) {
         Ok(scale) => Ok(scale),
@@ -48,6 +52,7 @@ pub fn read_scale(alloc: Global, text: &[u8]) -> Result<Scale, Fault>
 pub fn read_input(alloc: Global, bytes: &[u8]) -> Result<Smf<'_>, Fault>
     requires { length bytes.now ≤ 4194304 }
     ensures found { IfOk result (λ smf. Spells bytes.entry.now (view_file smf)) }
+    ensures early { IfErr result IsEarly }
     ensures fault { IfErr result (λ e. IsInputFault bytes.entry.now e) }
 {
     match read_smf(alloc, bytes) {

@@ -4,7 +4,7 @@ ghost use Rattle.midi_model.specs.Writing.{Written, written, file_bytes};
 ghost use Rattle.smf_read.specs.Files.{view_file};
 ghost use Rattle.std.specs.List.{AllByRecursion};
 ghost use Rattle.midi_model.specs.TuningBytes.{IsTuningValue};
-ghost use Rattle.mtune_core.specs.Answers.{output_file, dumped_file, report_of, IsUnplayed, ArePlayed, AreShort, IsRefusal, IsMade};
+ghost use Rattle.mtune_core.specs.Answers.{output_file, dumped_file, report_of, IsEarly, IsUnplayed, ArePlayed, AreShort, IsRefusal, IsMade};
 ghost use Rattle.mtune_core.specs.Survey.{survey_of};
 ghost use Rattle.mtune_core.specs.Putting.{written_from, view_setup};
 
@@ -56,6 +56,7 @@ fn accept(smf: &Smf<'_>, targets: &Targets) -> Result<Survey, Fault>
     ensures found { IfOk result (λ f. f ≡ survey_of (merged (view_file smf.now))) }
     ensures taken { IfOk result (λ f. f.taken ≡ true) }
     ensures played { IfOk result (λ f. ArePlayed targets.now f.keys) }
+    ensures early { IfErr result IsEarly }
     ensures playable { IfOk result (λ f. IsPlayable (length (view_file smf.now).tracks) (merged (view_file smf.now))) }
     ensures refused { IfErr result (λ e. IsRefusal targets.now (survey_of (merged (view_file smf.now))) e) }
 {
@@ -93,6 +94,7 @@ fn make(alloc: Global, smf: &Smf<'_>, targets: &Targets, found: &Survey) -> Resu
     requires short { AreShort (view_file smf.now) }
     ensures output { IfOk result (λ made. made.output.items ≡ file_bytes (dumped_file targets.now (view_file smf.now))) }
     ensures report { IfOk result (λ made. made.report.items ≡ report_of (merged (view_file smf.now))) }
+    ensures early { IfErr result IsEarly }
     ensures memory { IfErr result (λ e. e ≡ Fault.Memory) }
 {
     let setup = Setup {
@@ -113,6 +115,7 @@ fn make(alloc: Global, smf: &Smf<'_>, targets: &Targets, found: &Survey) -> Resu
 pub fn retuned(alloc: Global, targets: &Targets, input: &[u8]) -> Result<Made, Fault>
     requires len { length input.now ≤ 4194304 }
     requires values { AllByRecursion IsTuningValue targets.now }
+    ensures early { IfErr result IsEarly }
     ensures made { IfOk result (λ made. IsMade targets.now input.now made.output.items made.report.items) }
 {
     match read_input(alloc, input) {

@@ -1,4 +1,6 @@
-ghost use Rattle.std.specs.Prelude.{◌≤◌, length};
+ghost use Rattle.std.specs.Prelude.{◌≤◌, length, IfSome};
+ghost use Rattle.std.specs.List.{AllByRecursion};
+ghost use Rattle.midi_model.specs.TuningBytes.{IsTuningValue};
 
 use scl_text::{Entry, Scale};
 
@@ -30,7 +32,9 @@ fn nanocents(entry: Entry) -> Option<i64> {
 }
 
 /// The value of a pitch in grains, where the device has it.
-fn value(pitch: i128) -> Option<u32> {
+fn value(pitch: i128) -> Option<u32>
+    ensures { IsTuningValue result }
+{
     let steps = pitch.saturating_add(STEP / 2).div_euclid(STEP);
     if steps < 0 || steps > GREATEST {
         return None;
@@ -38,11 +42,12 @@ fn value(pitch: i128) -> Option<u32> {
     Some(steps as u32)
 }
 
-/// The target of a key, where all the entries are in cents.
+/// The target of a key, where all the entries that it needs are in cents.
 fn target(entries: &[Entry], key: u8) -> Option<Option<u32>>
     requires some { 1 ≤ length entries.now }
     requires few { length entries.now ≤ 4096 }
     requires key { key ≤ 127 }
+    ensures { IfSome result (λ target. IsTuningValue target) }
 {
     let count = entries.len() as i32;
     let degree = i32::from(key) - MIDDLE;
@@ -61,7 +66,9 @@ fn target(entries: &[Entry], key: u8) -> Option<Option<u32>>
 }
 
 /// The targets of all keys, where all the entries of the scale are in cents.
-pub fn targets(scale: &Scale) -> Option<Targets> {
+pub fn targets(scale: &Scale) -> Option<Targets>
+    ensures { IfSome result (λ targets. AllByRecursion IsTuningValue targets) }
+{
     let mut targets = [None; 128];
     for key in 0..128u8 {
         targets[key as usize] = target(&scale.entries, key)?;

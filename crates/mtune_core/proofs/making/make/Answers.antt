@@ -1,4 +1,13 @@
-use Rattle.std.proofs.Common.{◌≡◌, ◌≤◌, ℕ, length, refl, ap, subst, arith, rules}
+use Rattle.std.proofs.Common.{◌≡◌, ◌≤◌, ℕ, List, length, refl, ap, ◌∙◌, arith, rules}
+use Rattle.std.specs.Prelude.{count_by}
+use Rattle.mt_base.specs.Midi.{MidiEvent}
+use Rattle.midi_model.specs.Writing.{file_bytes}
+use Rattle.retune_model.specs.PlaysTheSame.{begins_note}
+use Rattle.retune_model.specs.Faults.{is_part}
+use Rattle.mtune_core.specs.Answers.{with_events}
+use Rattle.mtune_core.specs.Chosen.{dump_options}
+use Rattle.mtune_core.specs.Lines.{report_text}
+use Rattle.mtune_core.proofs.SurveyFacts.{found_notes, found_part_count}
 use Rattle.smf_read.specs.Files.{view_file}
 use Rattle.midi_model.specs.Merged.{merged}
 use Rattle.mtune_core.specs.declared.dump.Setup.{Setup}
@@ -23,7 +32,15 @@ output-requires-clause-short c =
     short bytes.0 file (view_setup setup) bytes.1 (omega (arith, bytes.2)) (short_setup setup few (omega (arith, c.dump.ensures.length)))
 
 pub returns-clause-output : goal.returns-clause-output
-returns-clause-output c = ?
+returns-clause-output c =
+    let file = view_file c.args.smf.now in
+    let setup : Setup = record { parts = c.args.found.now.parts; dump = c.dump.result; program = 0 } in
+    c.in-Ok.ensures ∙ ap (λ (es : List MidiEvent). file_bytes (with_events file es))
+    (written_is_dumped setup (merged file) c.args.targets.now c.requires.playable.valid (ap (λ (f : Survey). f.parts) c.requires.found) refl c.dump.ensures.bytes)
 
 pub returns-clause-report : goal.returns-clause-report
-returns-clause-report c = ?
+returns-clause-report c =
+    let es = merged (view_file c.args.smf.now) in
+    let notes = ap (λ (f : Survey). f.notes) c.requires.found ∙ found_notes es in
+    let parts = c.count.ensures ∙ ap (λ (f : Survey). count_by (λ b. b) f.parts) c.requires.found ∙ found_part_count es c.requires.playable.valid in
+    c.in-Ok-report.ensures ∙ ap (λ (n : ℕ). report_text n c.count.result) notes ∙ ap (λ (k : ℕ). report_text (count_by (λ e. begins_note (is_part dump_options) e.what) es) k) parts
