@@ -1,8 +1,8 @@
 -- The entries of a mapping, read in order.
-use Rattle.std.proofs.Common.{◌≡◌, ℕ, zero, suc, ◌+◌, ◌-◌, ◌<◌, ◌≤◌, List, [], ◌∷◌, ◌++◌, length, Option, None, Result, Ok, Err, refl, sym, ap, ◌∙◌, arith, append_assoc, append-nil, add-one}
+use Rattle.std.proofs.Common.{◌≡◌, ℕ, zero, suc, ◌+◌, ◌<◌, List, [], ◌∷◌, ◌++◌, Option, None, Result, Ok, Err, refl, sym, ap, ◌∙◌, arith, append_assoc, append-nil, add-one}
 use Rattle.scala_lines.specs.Lines.{Numbered}
 use Rattle.kbm_text.specs.declared.fault.KbmKind.{KbmKind}
-use Rattle.kbm_text.specs.Reading.{Fault, ◌>>=◌, entries_at, on_line, fault}
+use Rattle.kbm_text.specs.Reading.{Fault, ◌>>=◌, entries_at, fault}
 use Rattle.kbm_text.specs.Field.{entry_of}
 
 abbrev pub Entries : Type 0

@@ -1,12 +1,12 @@
 -- A number in a range, an entry, and their faults.
-use Rattle.std.proofs.Common.{◌≡◌, ℕ, zero, suc, ◌+◌, ◌<◌, ◌≤◌, ◌⊎◌, List, [], ◌∷◌, ◌++◌, length, Option, Some, None, Result, Ok, Err, Bool, true, false, cond, refl, sym, ap, subst, ◌∙◌, inl, inr, arith}
-use Rattle.std.specs.Prelude.{◌==◌, ◌||◌, ◌&&◌, nat_lt, nat_le}
-use Rattle.std.proofs.lemmas.Bool.{eqb-true, ltb-true, ltb-false, lt-ltb, le-ltb, leb-true, cases_lt, and_parts, or_parts, or_cases, or_from, or_left, or_right, eq-eqb, ne_eqb, cases_Bool, cond-true, cond-false}
-use Rattle.scala_lines.specs.Characters.{is_digit, is_blank, front, Are, StopsAt, digits_of, after_blanks}
+use Rattle.std.proofs.Common.{◌≡◌, ℕ, ◌<◌, ◌≤◌, ◌⊎◌, List, [], ◌∷◌, ◌++◌, length, Option, Some, None, Result, Ok, Err, true, false, cond, refl, sym, ap, subst, ◌∙◌, inl, inr, arith}
+use Rattle.std.specs.Prelude.{nat_lt, nat_le}
+use Rattle.std.proofs.lemmas.Bool.{eqb-true, lt-ltb, le-ltb, leb-true, cases_lt, and_parts, or_cases, or_from, or_left, or_right, ne_eqb, cases_Bool, cond-true, cond-false}
+use Rattle.scala_lines.specs.Characters.{is_digit, is_blank, front, StopsAt, digits_of, after_blanks}
 use Rattle.scala_lines.specs.Numbers.{value}
 use Rattle.scala_lines.specs.Spelling.{HasDigits, HasNoDigit}
 use Rattle.scala_lines.proofs.Fronts.{front_behind, front_are, behind_at}
-use Rattle.scala_lines.proofs.Spelled.{digits_again, no_digits_again, digits_or_none, long, is_number, digit_no_blank}
+use Rattle.scala_lines.proofs.Spelled.{digits_again, no_digits_again, digits_or_none, long, is_number}
 use Rattle.kbm_text.specs.declared.fault.KbmKind.{KbmKind}
 use Rattle.kbm_text.specs.declared.fault.KbmKind.TheVariants.{MissingField, BadNumber, SizeRange, KeyRange, BadFrequency, BadEntry, DegreeRange}
 use Rattle.kbm_text.specs.Field.{ranged, number_of, number_in, is_cross, degree_of, unblanked_entry, entry_of}

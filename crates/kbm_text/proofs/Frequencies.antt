@@ -1,7 +1,7 @@
 -- The frequency of a line, and its fault.
-use Rattle.std.proofs.Common.{◌≡◌, ℕ, zero, suc, ◌+◌, ◌*◌, ◌<◌, ◌≤◌, ◌⊎◌, List, [], ◌∷◌, ◌++◌, length, Result, Ok, Err, Bool, true, false, cond, refl, sym, ap, subst, ◌∙◌, inl, inr, arith}
-use Rattle.std.specs.Prelude.{◌==◌, ◌||◌, ◌&&◌, nat_lt}
-use Rattle.std.proofs.lemmas.Bool.{eqb-true, eqb-false, ltb-true, ltb-false, lt-ltb, le-ltb, leb-true, and_parts, or_parts, or_from, eq-eqb, ne_eqb, cases_Bool, cond-true, cond-false}
+use Rattle.std.proofs.Common.{◌≡◌, ℕ, zero, suc, ◌+◌, ◌*◌, ◌<◌, ◌⊎◌, List, [], ◌∷◌, ◌++◌, length, Result, Ok, Err, false, refl, sym, ap, subst, ◌∙◌, inl, inr, arith}
+use Rattle.std.specs.Prelude.{◌==◌, ◌||◌, nat_lt}
+use Rattle.std.proofs.lemmas.Bool.{eqb-true, eqb-false, ltb-false, le-ltb, or_parts, or_from, ne_eqb, cases_Bool, cond-true, cond-false}
 use Rattle.scala_lines.specs.Characters.{is_digit, is_blank, front, Are, StopsAt, digits_of, after_digits, after_blanks}
 use Rattle.scala_lines.specs.Numbers.{value, billionths}
 use Rattle.scala_lines.specs.Spelling.{IsNumber}
@@ -9,8 +9,8 @@ use Rattle.scala_lines.proofs.Fronts.{front_behind, front_are, behind_stops, fro
 use Rattle.scala_lines.proofs.Spelled.{digit_no_blank}
 use Rattle.kbm_text.specs.declared.fault.KbmKind.{KbmKind}
 use Rattle.kbm_text.specs.declared.fault.KbmKind.TheVariants.{BadFrequency}
-use Rattle.kbm_text.specs.Field.{ranged, decimals_of, nanohertz_of, unblanked_frequency, frequency_of, greatest_frequency}
-use Rattle.kbm_text.specs.Spelling.{digit_or_period, HasWhole, HasPeriod, HasFrequency, IsFrequency, NoFrequency}
+use Rattle.kbm_text.specs.Field.{ranged, decimals_of, nanohertz_of, frequency_of, greatest_frequency}
+use Rattle.kbm_text.specs.Spelling.{digit_or_period, HasFrequency, IsFrequency, NoFrequency}
 use Rattle.kbm_text.proofs.Results.{chosen}
 use Rattle.kbm_text.proofs.Fields.{ok_is, err_is, ok_not_err}
 

@@ -1,13 +1,13 @@
 -- A text that is read is a mapping text, and a mapping text is read; each text has a mapping or a first fault.
-use Rattle.std.proofs.Common.{◌≡◌, ℕ, zero, suc, ◌+◌, ◌<◌, ◌≤◌, ◌⊎◌, List, [], ◌∷◌, ◌++◌, length, slice_get, Option, Some, None, Result, Ok, Err, refl, sym, ap, subst, ◌∙◌, inl, inr, arith}
+use Rattle.std.proofs.Common.{◌≡◌, ℕ, zero, suc, ◌+◌, ◌≤◌, List, [], ◌∷◌, length, slice_get, Option, Some, None, Result, Ok, Err, refl, sym, ap, subst, ◌∙◌, inl, inr, arith}
 use Rattle.scala_lines.specs.Lines.{Numbered, content}
 use Rattle.kbm_text.specs.declared.fault.KbmKind.{KbmKind}
-use Rattle.kbm_text.specs.declared.fault.KbmKind.TheVariants.{MissingField, BadNumber, SizeRange, KeyRange, BadFrequency, BadEntry, DegreeRange}
+use Rattle.kbm_text.specs.declared.fault.KbmKind.TheVariants.{MissingField, SizeRange, KeyRange, DegreeRange}
 use Rattle.kbm_text.specs.Reading.{Fault, ◌>>=◌, fault, on_line, field_at, Keys, keys_at, entry_lines, entries_at, map_at, map_of}
 use Rattle.kbm_text.specs.Field.{number_in, frequency_of, entry_of}
 use Rattle.kbm_text.specs.Map.{Map}
 use Rattle.kbm_text.specs.Ranges.{AreDegrees}
-use Rattle.kbm_text.specs.Spelling.{IsIn, NotIn, IsFrequency, NoFrequency, IsEntry, NoEntry, AreEntries, IsMap, MapText, EntriesFault, FieldFault, OctaveFault, FrequencyFault, ReferenceFault, MiddleFault, LastFault, FirstFault, IsFault, MapFault}
+use Rattle.kbm_text.specs.Spelling.{IsIn, NotIn, IsFrequency, NoFrequency, IsEntry, AreEntries, IsMap, MapText, EntriesFault, FieldFault, OctaveFault, FrequencyFault, ReferenceFault, MiddleFault, LastFault, FirstFault, IsFault, MapFault}
 use Rattle.kbm_text.proofs.Results.{bind_ok, bind_err, on_line_ok, on_line_err}
 use Rattle.kbm_text.proofs.Fields.{in_takes, in_again, out_takes, out_again, entry_takes, entry_again, no_entry_takes, no_entry_again}
 use Rattle.kbm_text.proofs.Frequencies.{frequency_takes, frequency_again, no_frequency_takes, no_frequency_again}

@@ -1,5 +1,5 @@
 -- Steps of reading, and which way they went.
-use Rattle.std.proofs.Common.{◌≡◌, ℕ, ◌⊎◌, Result, Ok, Err, Option, Some, None, Bool, true, false, cond, refl, inl, inr}
+use Rattle.std.proofs.Common.{◌≡◌, ℕ, ◌⊎◌, Result, Ok, Err, Bool, true, false, cond, refl, inl, inr}
 use Rattle.kbm_text.specs.declared.fault.KbmKind.{KbmKind}
 use Rattle.kbm_text.specs.Reading.{Fault, ◌>>=◌, on_line}
 

@@ -1,5 +1,5 @@
 -- A keyboard mapping as data, without where its entries lie in memory.
-use Rattle.std.specs.Prelude.{ℕ, ◌≤◌, ◌≡◌, List, [], Option, Some, slice_get}
+use Rattle.std.specs.Prelude.{ℕ, List, [], Option}
 use Rattle.kbm_text.specs.declared.mapping.Mapping.{Mapping}
 
 pub record Map : Type 0 where

@@ -1,5 +1,5 @@
 -- Texts with what they are.
-use Rattle.std.specs.Prelude.{ℕ, List, [], ◌∷◌, ◌++◌, Option, Some, None, codes}
+use Rattle.std.specs.Prelude.{ℕ, List, [], ◌∷◌, ◌++◌, Some, None, codes}
 use Rattle.kbm_text.specs.Map.{Map}
 
 abbrev pub six_fields : List ℕ

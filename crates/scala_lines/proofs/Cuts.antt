@@ -1,10 +1,10 @@
 -- The first line of a text, and the lines behind it.
-use Rattle.std.proofs.Common.{◌≡◌, ℕ, zero, suc, ◌+◌, ◌-◌, ◌<◌, ◌≤◌, List, [], ◌∷◌, ◌++◌, length, take, drop, get_or, Bool, true, false, cond, not, eqb, ◌==◌, refl, sym, ap, ◌∙◌, arith}
+use Rattle.std.proofs.Common.{◌≡◌, ℕ, zero, suc, ◌-◌, ◌<◌, ◌≤◌, List, [], ◌∷◌, length, take, drop, get_or, true, false, cond, not, eqb, ◌==◌, refl, sym, ap, ◌∙◌, arith}
 use Rattle.std.proofs.lemmas.Bool.{eq-eqb, ne_eqb, eqb-true}
 use Rattle.scala_lines.proofs.Fronts.{take_front}
-use Rattle.std.proofs.lemmas.List.{nil_from_length, take_all}
+use Rattle.std.proofs.lemmas.List.{take_all}
 use Rattle.scala_lines.specs.Characters.{front, behind}
-use Rattle.scala_lines.specs.Lines.{pieces_of, cut_at, with_byte, lines_of, lines_from, without_cr, is_inside, from_end}
+use Rattle.scala_lines.specs.Lines.{pieces_of, with_byte, lines_of, lines_from, without_cr, is_inside, from_end}
 
 -- a text whose first LF is followed by a rest
 pub pieces_more : (text : List ℕ) (c : ℕ) (rest : List ℕ) → from_end text ≡ c ∷ rest → pieces_of text ≡ front is_inside text ∷ pieces_of rest

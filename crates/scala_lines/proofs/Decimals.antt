@@ -1,5 +1,5 @@
 -- What digits say.
-use Rattle.std.proofs.Common.{◌≡◌, ℕ, zero, suc, ◌+◌, ◌-◌, ◌*◌, ◌/◌, ◌^◌, ◌<◌, ◌≤◌, List, [], ◌∷◌, ◌++◌, length, take, drop, get_or, Bool, true, false, cond, Option, Some, None, refl, sym, ap, ◌∙◌, arith, leb, inl, inr}
+use Rattle.std.proofs.Common.{◌≡◌, ℕ, zero, suc, ◌+◌, ◌-◌, ◌*◌, ◌/◌, ◌^◌, ◌<◌, ◌≤◌, List, [], ◌∷◌, length, take, drop, get_or, true, Option, Some, None, refl, sym, ap, ◌∙◌, arith, leb, inl, inr}
 use Rattle.std.proofs.lemmas.Bool.{leb-true, lt-leb, le-leb, and_parts, cases_lt}
 use Rattle.std.proofs.lemmas.List.{drop_more, length-take}
 use Rattle.std.proofs.Math.Nat.{pow-succ', mul-le-mul_right, mul-le-mul_left, mul_assoc}

@@ -1,8 +1,8 @@
 -- The digits that are found behind blanks stand there, and those that stand there are found.
-use Rattle.std.proofs.Common.{◌≡◌, ℕ, zero, suc, ◌+◌, ◌<◌, ◌≤◌, ◌⊎◌, List, [], ◌∷◌, ◌++◌, length, Bool, true, false, refl, sym, ap, subst, ◌∙◌, inl, inr, arith}
-use Rattle.std.specs.Prelude.{◌==◌, ◌||◌, ◌&&◌}
+use Rattle.std.proofs.Common.{◌≡◌, ℕ, ◌<◌, ◌⊎◌, List, [], ◌∷◌, ◌++◌, length, true, false, refl, sym, ap, subst, ◌∙◌, inl, inr, arith}
+use Rattle.std.specs.Prelude.{◌==◌}
 use Rattle.std.proofs.lemmas.Bool.{ne_eqb, leb-true, and_parts, or_from}
-use Rattle.scala_lines.specs.Characters.{is_digit, is_blank, front, behind, Are, StopsAt, digits_of, after_digits, after_blanks}
+use Rattle.scala_lines.specs.Characters.{is_digit, is_blank, front, StopsAt, digits_of, after_digits, after_blanks}
 use Rattle.scala_lines.specs.Spelling.{IsNumber, HasDigits, HasNoDigit, number_of}
 use Rattle.scala_lines.proofs.Fronts.{front_behind, front_are, behind_stops, front_at, behind_at}
 
@@ -21,9 +21,14 @@ some_digits line digits e some =
 
 no_digits : (line : List ℕ) → number_of line ≡ [] → HasNoDigit line
 no_digits line e =
-    let all : after_digits (after_blanks line) ≡ after_blanks line = (let f = front_behind is_digit (after_blanks line) in sym (ap (λ r. r ++ after_digits (after_blanks line)) e) ∙ f) in
-    (front is_blank line, after_blanks line, front_are is_blank line, behind_stops is_blank line,
-      (let P : List ℕ → Type 0 = λ r. StopsAt is_digit r in subst P all (behind_stops is_digit (after_blanks line))), sym (front_behind is_blank line))
+    let all : after_digits (after_blanks line) ≡ after_blanks line = (let f = front_behind is_digit (after_blanks line) in sym (ap (λ r. r ++ after_digits (after_blanks line)) e) ∙ f) in (
+      front is_blank line,
+      after_blanks line,
+      front_are is_blank line,
+      behind_stops is_blank line,
+      (let P : List ℕ → Type 0 = λ r. StopsAt is_digit r in subst P all (behind_stops is_digit (after_blanks line))),
+      sym (front_behind is_blank line),
+    )
 
 first_blank : (digits rest : List ℕ) → IsNumber digits → StopsAt is_blank (digits ++ rest)
 first_blank [] rest n = absurd (let h = n.1 in omega (arith, h))

@@ -1,15 +1,13 @@
 -- The count of a count line, and its fault.
-use Rattle.std.proofs.Common.{◌≡◌, ℕ, zero, suc, ◌+◌, ◌<◌, ◌≤◌, ◌⊎◌, List, [], ◌∷◌, ◌++◌, length, Result, Ok, Err, Bool, true, false, cond, refl, sym, ap, subst, ◌∙◌, inl, inr, arith, append-nil}
-use Rattle.std.specs.Prelude.{◌==◌, ◌||◌, ◌&&◌, nat_lt}
-use Rattle.std.proofs.lemmas.Bool.{eqb-true, eqb-false, eq-eqb, ne_eqb, ltb-true, ltb-false, lt-ltb, le-ltb, leb-true, cases_lt, and_parts, or_parts, or_cases, or_from, or_left, or_right}
+use Rattle.std.proofs.Common.{◌≡◌, ℕ, zero, suc, ◌<◌, ◌≤◌, ◌⊎◌, List, Result, Ok, Err, refl, sym, ap, subst, ◌∙◌, inl, inr, arith}
+use Rattle.std.specs.Prelude.{◌==◌, nat_lt}
+use Rattle.std.proofs.lemmas.Bool.{eq-eqb, ne_eqb, lt-ltb, le-ltb, cases_lt, or_from, or_left, or_right}
 use Rattle.scala_lines.specs.Numbers.{value}
-use Rattle.scala_lines.specs.Spelling.{HasDigits, HasNoDigit}
 use Rattle.scala_lines.proofs.Spelled.{digits_again, no_digits_again, digits_or_none, long, is_number}
 use Rattle.scl_text.specs.declared.fault.SclKind.{SclKind}
 use Rattle.scl_text.specs.declared.fault.SclKind.TheVariants.{NoDescription, NoCount, BadCount, CountRange, BadPitch, NegativeRatio, ZeroRatio, BigNumber, MissingPitch}
 use Rattle.scl_text.specs.Reading.{count_of, count_digits, count_in_range}
 use Rattle.scl_text.specs.Spelling.{IsCount, CountFault}
-use Rattle.scl_text.proofs.Results.{chosen}
 
 abbrev Read : Type 0
 Read = Result ℕ SclKind

@@ -1,10 +1,10 @@
 -- The entries of a text, read in order.
-use Rattle.std.proofs.Common.{◌≡◌, ℕ, zero, suc, ◌+◌, ◌-◌, ◌<◌, ◌≤◌, List, [], ◌∷◌, ◌++◌, length, Result, Ok, Err, refl, sym, ap, ◌∙◌, arith, append_assoc, append-nil, add-one}
+use Rattle.std.proofs.Common.{◌≡◌, ℕ, zero, suc, ◌+◌, ◌<◌, List, [], ◌∷◌, ◌++◌, Result, Ok, Err, refl, sym, ap, ◌∙◌, arith, append_assoc, append-nil, add-one}
 use Rattle.scl_text.specs.declared.fault.SclKind.{SclKind}
 use Rattle.scl_text.specs.declared.fault.SclKind.TheVariants.{MissingPitch}
 use Rattle.scala_lines.specs.Lines.{Numbered}
 use Rattle.scl_text.specs.declared.entry.Entry.{Entry}
-use Rattle.scl_text.specs.Reading.{Fault, ◌>>=◌, entries_at, on_line, fault}
+use Rattle.scl_text.specs.Reading.{Fault, ◌>>=◌, entries_at, fault}
 use Rattle.scl_text.specs.Pitch.{pitch_of}
 
 abbrev pub with_front : List Entry → Result (List Entry) Fault → Result (List Entry) Fault

@@ -1,13 +1,12 @@
 -- Where no form is found, what stands there in its place, and the other way round.
-use Rattle.std.proofs.Common.{◌≡◌, ℕ, zero, suc, ◌<◌, ◌⊎◌, List, [], ◌∷◌, ◌++◌, length, Option, Some, None, Result, Ok, Err, Bool, true, false, cond, refl, sym, ap, subst, ◌∙◌, inl, inr, arith}
+use Rattle.std.proofs.Common.{◌≡◌, ℕ, ◌<◌, ◌⊎◌, List, [], ◌∷◌, ◌++◌, length, Option, Some, None, Bool, true, false, cond, refl, sym, ap, subst, ◌∙◌, inl, inr, arith}
 use Rattle.std.specs.Prelude.{◌==◌}
-use Rattle.std.proofs.lemmas.Bool.{eqb-true, eqb-false, eq-eqb, ne_eqb, cases_Bool, cond-true, cond-false}
+use Rattle.std.proofs.lemmas.Bool.{eqb-true, eqb-false, cases_Bool, cond-true, cond-false}
 use Rattle.std.proofs.lemmas.List.{nil_from_length}
-use Rattle.scala_lines.specs.Characters.{is_digit, front, behind, Are, StopsAt, digits_of, after_digits, after_blanks}
-use Rattle.scala_lines.specs.Spelling.{IsNumber}
+use Rattle.scala_lines.specs.Characters.{is_digit, StopsAt, digits_of, after_digits, after_blanks}
 use Rattle.scala_lines.proofs.Fronts.{front_behind, front_are, behind_stops, front_at, behind_at}
 use Rattle.scl_text.specs.declared.fault.SclKind.TheVariants.{BadPitch}
-use Rattle.scl_text.specs.Pitch.{Form, InCents, AsRatio, Alone, cents_form, ratio_form, alone_form, form_behind, unsigned_form, signed_form, form_of, pitch_of}
+use Rattle.scl_text.specs.Pitch.{Form, InCents, AsRatio, Alone, form_behind, unsigned_form, signed_form, form_of}
 use Rattle.scl_text.specs.Spelling.{PitchFault, FormFault}
 use Rattle.scl_text.specs.BadPitch.{unsigned, NoStart, IsCutRatio, HasNoForm}
 use Rattle.scl_text.proofs.Results.{chosen}
@@ -29,9 +28,9 @@ full (d ∷ ds) e = omega arith
 stopped : (bs : List ℕ) → digits_of bs ≡ [] → StopsAt is_digit bs
 stopped [] e = tt
 stopped (b ∷ bs) e = elim (cases_Bool (is_digit b)) [
-      | inl d ↦ absurd (let h : b ∷ digits_of bs ≡ [] = sym (cond-true (is_digit b) (b ∷ digits_of bs) [] d) ∙ e in cc)
-      | inr n ↦ n
-    ]
+  | inl d ↦ absurd (let h : b ∷ digits_of bs ≡ [] = sym (cond-true (is_digit b) (b ∷ digits_of bs) [] d) ∙ e in cc)
+  | inr n ↦ n
+]
 
 -- where there is no digit at the front, the rest is the whole
 no_digits : (text rest : List ℕ) → digits_of text ≡ [] → after_digits text ≡ rest → text ≡ rest
@@ -52,26 +51,31 @@ none_behind negative text [] a e =
 none_behind negative text (b ∷ bs) a e =
     elim (chosen (b == 46) _ _ None e) [
       | inl p ↦ elim (chosen (length (digits_of text) == 0) _ _ None p.1) [
-          | inl t ↦ elim (chosen (length (digits_of bs) == 0) _ _ None t.1) [
-              | inl u ↦ at_start text b bs (empty (digits_of text) t.0) a (λ h. stopped bs (empty (digits_of bs) u.0))
-              | inr u ↦ absurd (not_none (InCents negative (digits_of text) (digits_of bs)) u.1)
-            ]
-          | inr t ↦ absurd (not_none (InCents negative (digits_of text) (digits_of bs)) t.1)
+        | inl t ↦ elim (chosen (length (digits_of bs) == 0) _ _ None t.1) [
+          | inl u ↦ at_start text b bs (empty (digits_of text) t.0) a (λ h. stopped bs (empty (digits_of bs) u.0))
+          | inr u ↦ absurd (not_none (InCents negative (digits_of text) (digits_of bs)) u.1)
         ]
+        | inr t ↦ absurd (not_none (InCents negative (digits_of text) (digits_of bs)) t.1)
+      ]
       | inr p ↦ elim (chosen (b == 47) _ _ None p.1) [
-          | inl q ↦ elim (chosen (length (digits_of text) == 0) _ _ None q.1) [
-              | inl t ↦ at_start text b bs (empty (digits_of text) t.0) a (λ h. absurd (eqb-false b 46 p.0 h))
-              | inr t ↦ elim (chosen (length (digits_of bs) == 0) _ _ None t.1) [
-                  | inl u ↦ inr (digits_of text, bs, (front_are is_digit text, full (digits_of text) t.0), stopped bs (empty (digits_of bs) u.0),
-                      sym (front_behind is_digit text) ∙ ap (λ r. digits_of text ++ r) (a ∙ ap (λ c. c ∷ bs) (eqb-true b 47 q.0)))
-                  | inr u ↦ absurd (not_none (AsRatio negative (digits_of text) (digits_of bs)) u.1)
-                ]
-            ]
-          | inr q ↦ elim (chosen (length (digits_of text) == 0) _ _ None q.1) [
-              | inl t ↦ at_start text b bs (empty (digits_of text) t.0) a (λ h. absurd (eqb-false b 46 p.0 h))
-              | inr t ↦ absurd (not_none (Alone negative (digits_of text)) t.1)
-            ]
+        | inl q ↦ elim (chosen (length (digits_of text) == 0) _ _ None q.1) [
+          | inl t ↦ at_start text b bs (empty (digits_of text) t.0) a (λ h. absurd (eqb-false b 46 p.0 h))
+          | inr t ↦ elim (chosen (length (digits_of bs) == 0) _ _ None t.1) [
+            | inl u ↦ inr (
+              digits_of text,
+              bs,
+              (front_are is_digit text, full (digits_of text) t.0),
+              stopped bs (empty (digits_of bs) u.0),
+              sym (front_behind is_digit text) ∙ ap (λ r. digits_of text ++ r) (a ∙ ap (λ c. c ∷ bs) (eqb-true b 47 q.0)),
+            )
+            | inr u ↦ absurd (not_none (AsRatio negative (digits_of text) (digits_of bs)) u.1)
+          ]
         ]
+        | inr q ↦ elim (chosen (length (digits_of text) == 0) _ _ None q.1) [
+          | inl t ↦ at_start text b bs (empty (digits_of text) t.0) a (λ h. absurd (eqb-false b 46 p.0 h))
+          | inr t ↦ absurd (not_none (Alone negative (digits_of text)) t.1)
+        ]
+      ]
     ]
 
 no_front : (bs : List ℕ) → StopsAt is_digit bs → digits_of bs ≡ []
@@ -81,12 +85,12 @@ no_front (b ∷ bs) s = rw s refl
 start_none : (negative : Bool) (text : List ℕ) → NoStart text → unsigned_form negative text ≡ None
 start_none negative [] h = refl
 start_none negative (b ∷ bs) (no_digit, h) = rw no_digit (elim (cases_Bool (b == 46)) [
-      | inl p ↦ cond-true (b == 46) _ _ p ∙ (rw (no_front bs (h (eqb-true b 46 p))) refl)
-      | inr p ↦ cond-false (b == 46) _ _ p ∙ elim (cases_Bool (b == 47)) [
-          | inl q ↦ cond-true (b == 47) _ _ q
-          | inr q ↦ cond-false (b == 47) _ _ q
-        ]
-    ])
+  | inl p ↦ cond-true (b == 46) _ _ p ∙ (rw (no_front bs (h (eqb-true b 46 p))) refl)
+  | inr p ↦ cond-false (b == 46) _ _ p ∙ elim (cases_Bool (b == 47)) [
+    | inl q ↦ cond-true (b == 47) _ _ q
+    | inr q ↦ cond-false (b == 47) _ _ q
+  ]
+])
 
 either_none : (b : Bool) → cond {A = Option Form} b None None ≡ None
 either_none true = refl
@@ -103,16 +107,16 @@ unsigned_none negative text (inr h) = cut_none negative text h
 signed_bad : (text : List ℕ) → signed_form text ≡ None → Bad (unsigned text)
 signed_bad [] e = inl tt
 signed_bad (b ∷ bs) e = let P : List ℕ → Type 0 = λ r. Bad r in elim (cases_Bool (b == 45)) [
-      | inl m ↦ subst P (sym (cond-true (b == 45) bs (b ∷ bs) m)) (none_behind true bs (after_digits bs) refl (sym (cond-true (b == 45) (unsigned_form true bs) (unsigned_form false (b ∷ bs)) m) ∙ e))
-      | inr m ↦ subst P (sym (cond-false (b == 45) bs (b ∷ bs) m)) (none_behind false (b ∷ bs) (after_digits (b ∷ bs)) refl (sym (cond-false (b == 45) (unsigned_form true bs) (unsigned_form false (b ∷ bs)) m) ∙ e))
-    ]
+  | inl m ↦ subst P (sym (cond-true (b == 45) bs (b ∷ bs) m)) (none_behind true bs (after_digits bs) refl (sym (cond-true (b == 45) (unsigned_form true bs) (unsigned_form false (b ∷ bs)) m) ∙ e))
+  | inr m ↦ subst P (sym (cond-false (b == 45) bs (b ∷ bs) m)) (none_behind false (b ∷ bs) (after_digits (b ∷ bs)) refl (sym (cond-false (b == 45) (unsigned_form true bs) (unsigned_form false (b ∷ bs)) m) ∙ e))
+]
 
 bad_signed : (text : List ℕ) → Bad (unsigned text) → signed_form text ≡ None
 bad_signed [] h = refl
 bad_signed (b ∷ bs) h = let P : List ℕ → Type 0 = λ r. Bad r in elim (cases_Bool (b == 45)) [
-      | inl m ↦ cond-true (b == 45) (unsigned_form true bs) (unsigned_form false (b ∷ bs)) m ∙ unsigned_none true bs (subst P (cond-true (b == 45) bs (b ∷ bs) m) h)
-      | inr m ↦ cond-false (b == 45) (unsigned_form true bs) (unsigned_form false (b ∷ bs)) m ∙ unsigned_none false (b ∷ bs) (subst P (cond-false (b == 45) bs (b ∷ bs) m) h)
-    ]
+  | inl m ↦ cond-true (b == 45) (unsigned_form true bs) (unsigned_form false (b ∷ bs)) m ∙ unsigned_none true bs (subst P (cond-true (b == 45) bs (b ∷ bs) m) h)
+  | inr m ↦ cond-false (b == 45) (unsigned_form true bs) (unsigned_form false (b ∷ bs)) m ∙ unsigned_none false (b ∷ bs) (subst P (cond-false (b == 45) bs (b ∷ bs) m) h)
+]
 
 form_none : (line : List ℕ) → form_of line ≡ None → HasNoForm line
 unfolding form_of
@@ -128,9 +132,9 @@ found (Some form) = inr (form, refl)
 
 pub bad_is : (line : List ℕ) → PitchFault line BadPitch → HasNoForm line
 bad_is line (inl (e, none)) = elim (found (form_of line)) [
-      | inl n ↦ form_none line n
-      | inr s ↦ absurd (none s.0 (form_takes line s.0 s.1))
-    ]
+  | inl n ↦ form_none line n
+  | inr s ↦ absurd (none s.0 (form_takes line s.0 s.1))
+]
 bad_is line (inr (form, s, f)) = absurd (not_form form f)
   where
     not_form : (g : Form) → FormFault g BadPitch → ⊥

@@ -1,5 +1,5 @@
 -- A text that is read is a scale text, and a scale text is read; each text has a scale or a first fault.
-use Rattle.std.proofs.Common.{◌≡◌, ℕ, zero, suc, ◌+◌, ◌<◌, ◌≤◌, ◌⊎◌, List, [], ◌∷◌, ◌++◌, length, slice_get, Some, Result, Ok, Err, refl, sym, ap, subst, ◌∙◌, inl, inr, arith}
+use Rattle.std.proofs.Common.{◌≡◌, ℕ, zero, suc, ◌+◌, ◌<◌, ◌≤◌, List, [], ◌∷◌, ◌++◌, length, slice_get, Some, Result, Ok, Err, refl, sym, ap, subst, inl, inr, arith}
 use Rattle.scala_lines.specs.Lines.{Numbered, content}
 use Rattle.scl_text.specs.declared.entry.Entry.{Entry}
 use Rattle.scl_text.specs.declared.entry.Entry.TheVariants.{Ratio, Cents}
@@ -7,7 +7,7 @@ use Rattle.scl_text.specs.declared.fault.SclKind.{SclKind}
 use Rattle.scl_text.specs.declared.fault.SclKind.TheVariants.{NoDescription, NoCount, MissingPitch}
 use Rattle.scl_text.specs.Reading.{Fault, ◌>>=◌, fault, on_line, count_of, entries_at, scale_at, scale_of}
 use Rattle.scl_text.specs.Pitch.{pitch_of}
-use Rattle.scl_text.specs.Spelling.{IsPitch, PitchFault, IsCount, CountFault, ArePitches, BeginsWith, IsScale, ScaleText, NoPitch, StopsWith, IsFault, ScaleFault}
+use Rattle.scl_text.specs.Spelling.{IsPitch, ArePitches, BeginsWith, IsScale, ScaleText, NoPitch, StopsWith, IsFault, ScaleFault}
 use Rattle.scl_text.specs.Ranges.{IsEntry, AreEntries}
 use Rattle.scl_text.proofs.Results.{bind_ok, bind_err, on_line_ok, on_line_err}
 use Rattle.scl_text.proofs.Values.{pitch_takes, pitch_again, pitch_fault_takes, pitch_fault_again, pitch_in_range}

@@ -1,5 +1,5 @@
 -- The entry of a pitch line, and its fault.
-use Rattle.std.proofs.Common.{◌≡◌, ℕ, zero, suc, ◌+◌, ◌*◌, ◌^◌, ◌<◌, ◌≤◌, ◌⊎◌, List, [], ◌∷◌, ◌++◌, length, Option, Some, None, Result, Ok, Err, Bool, true, false, cond, eqb, ltb, ℤ, pos, neg_ℤ, ◌≤ℤ◌, refl, sym, ap, subst, ◌∙◌, inl, inr, arith}
+use Rattle.std.proofs.Common.{◌≡◌, ℕ, zero, suc, ◌+◌, ◌*◌, ◌≤◌, ◌⊎◌, List, Option, Some, None, Result, Ok, Err, Bool, true, false, refl, sym, ap, subst, ◌∙◌, inl, inr, arith}
 use Rattle.std.specs.Prelude.{◌==◌, ◌||◌, nat_lt}
 use Rattle.std.proofs.lemmas.Bool.{eqb-true, eqb-false, eq-eqb, ne_eqb, ltb-true, ltb-false, lt-ltb, le-ltb, or_parts, or_cases, or_from, or_left, or_right}
 use Rattle.std.proofs.lemmas.Int.{ints}
@@ -10,8 +10,8 @@ use Rattle.scl_text.specs.declared.entry.Entry.{Entry}
 use Rattle.scl_text.specs.declared.entry.Entry.TheVariants.{Ratio, Cents}
 use Rattle.scl_text.specs.declared.fault.SclKind.{SclKind}
 use Rattle.scl_text.specs.declared.fault.SclKind.TheVariants.{NoDescription, NoCount, BadCount, CountRange, BadPitch, NegativeRatio, ZeroRatio, BigNumber, MissingPitch}
-use Rattle.scl_text.specs.Pitch.{Form, InCents, AsRatio, Alone, form_of, entry_of, entry_if, ratio_entry, cents_entry, pitch_of, signed, greatest_number, greatest_cents}
-use Rattle.scl_text.specs.Spelling.{IsForm, Stands, IsValue, IsPitch, RatioFault, FormFault, PitchFault}
+use Rattle.scl_text.specs.Pitch.{Form, InCents, AsRatio, Alone, form_of, entry_of, entry_if, ratio_entry, pitch_of, signed, greatest_number, greatest_cents}
+use Rattle.scl_text.specs.Spelling.{Stands, IsValue, IsPitch, RatioFault, FormFault, PitchFault}
 use Rattle.scl_text.specs.Ranges.{IsRatio, IsCents, IsEntry}
 use Rattle.scl_text.proofs.Results.{chosen}
 use Rattle.scl_text.proofs.Written.{form_takes, form_again, no_form}

@@ -1,8 +1,8 @@
 -- What is written on a pitch line: the form that is found stands there, and the form that stands there is found.
-use Rattle.std.proofs.Common.{◌≡◌, ℕ, zero, suc, ◌+◌, ◌<◌, ◌≤◌, ◌⊎◌, List, [], ◌∷◌, ◌++◌, length, Option, Some, None, Bool, true, false, cond, eqb, leb, refl, sym, ap, subst, ◌∙◌, inl, inr, arith, append_assoc}
-use Rattle.std.specs.Prelude.{◌==◌, ◌||◌, ◌&&◌}
-use Rattle.std.proofs.lemmas.Bool.{eqb-true, eqb-false, eq-eqb, ne_eqb, leb-true, and_parts, or_from, or_parts}
-use Rattle.scala_lines.specs.Characters.{is_blank, is_digit, front, behind, Are, StopsAt, digits_of, after_digits, after_blanks}
+use Rattle.std.proofs.Common.{◌≡◌, ℕ, zero, suc, ◌+◌, ◌<◌, ◌⊎◌, List, [], ◌∷◌, ◌++◌, length, Option, Some, None, Bool, true, false, leb, refl, sym, ap, subst, ◌∙◌, inl, inr, arith, append_assoc}
+use Rattle.std.specs.Prelude.{◌==◌, ◌||◌}
+use Rattle.std.proofs.lemmas.Bool.{eqb-true, eqb-false, ne_eqb, leb-true, and_parts, or_from, or_parts}
+use Rattle.scala_lines.specs.Characters.{is_blank, is_digit, front, Are, StopsAt, digits_of, after_digits, after_blanks}
 use Rattle.scala_lines.proofs.Fronts.{front_behind, front_are, behind_stops, front_at, behind_at}
 use Rattle.scl_text.specs.Pitch.{Form, InCents, AsRatio, Alone, cents_form, ratio_form, alone_form, form_behind, unsigned_form, signed_form, form_of}
 use Rattle.scala_lines.specs.Spelling.{IsNumber}

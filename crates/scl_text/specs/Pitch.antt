@@ -1,5 +1,5 @@
 -- Pitch lines of a scale text (the Scala scale file format, in this project's own limits).
-use Rattle.std.specs.Prelude.{ℕ, ◌+◌, ◌*◌, ◌==◌, ◌||◌, nat_lt, nat_le, ℤ, pos, neg_ℤ, List, [], ◌∷◌, length, Bool, true, false, Option, Some, None, Result, Ok, Err, if◌then◌else◌}
+use Rattle.std.specs.Prelude.{ℕ, ◌+◌, ◌*◌, ◌==◌, ◌||◌, nat_lt, ℤ, pos, neg_ℤ, List, [], ◌∷◌, length, Bool, true, false, Option, Some, None, Result, Ok, Err, if◌then◌else◌}
 use Rattle.scala_lines.specs.Characters.{digits_of, after_digits, after_blanks}
 use Rattle.scala_lines.specs.Numbers.{value, billionths}
 use Rattle.scl_text.specs.declared.entry.Entry.{Entry}

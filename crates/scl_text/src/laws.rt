@@ -20,8 +20,7 @@ pub fn one_answer()
 pub fn bad_pitch()
     ensures only { (line : List ℕ) → PitchFault line SclKind.BadPitch → HasNoForm line }
     ensures every { (line : List ℕ) → HasNoForm line → PitchFault line SclKind.BadPitch }
-{
-}
+{}
 
 /// Texts that the definitions were tried on: four entries with a comment, text behind values and a last line without
 /// LF; the same with CR LF; a last line that is a negative number alone; no last line; no text.

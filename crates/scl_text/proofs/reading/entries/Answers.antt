@@ -1,8 +1,7 @@
-use Rattle.std.proofs.Common.{◌-◌, ◌+◌, ◌<◌, ◌≡◌, ◌++◌, ◌∷◌, [], refl, sym, ap, ◌∙◌, arith}
+use Rattle.std.proofs.Common.{◌-◌, ◌+◌, ◌≡◌, ◌++◌, ◌∷◌, [], refl, sym, ◌∙◌, arith}
 use Rattle.scala_lines.specs.Remaining.{view, remaining, missing}
 use Rattle.std.proofs.lemmas.Bool.{cond-true}
-use Rattle.scl_text.specs.Reading.{entries_at}
-use Rattle.scl_text.proofs.Entries.{with_front, front_missing, front_fault, front_more, front_end}
+use Rattle.scl_text.proofs.Entries.{front_missing, front_fault, front_more, front_end}
 use Rattle.scl_text.proofs.reading.entries.Goals as goal
 
 pub returns-in-Err : goal.returns-in-Err
