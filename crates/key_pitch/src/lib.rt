@@ -4,10 +4,7 @@
 mod aim;
 mod fault;
 mod keys;
-
 mod sum;
-
 
 pub use aim::Aim;
 pub use fault::TuneFault;
-

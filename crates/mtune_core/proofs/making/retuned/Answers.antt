@@ -20,6 +20,7 @@ returns c =
     let found = c.in-Ok-accept.ensures.found in
     let valid = c.in-Ok-accept.ensures.playable.valid in
     record {
+      early = c.make.ensures.early;
       made = both_ok (λ (m : Made). m.output.items ≡ file_bytes (dumped_file c.args.targets.now file)) (λ (m : Made). m.report.items ≡ report_of es)
           (λ (m : Made). IsMade c.args.targets.now c.args.input.now m.output.items m.report.items)
           (λ m output report. record {
