@@ -99,4 +99,3 @@ pub outside_high : (m : Mapping) (k : ℕ) → m.last < k → is_mapped_range m 
 outside_high m k high =
     let b : nat_le k m.last ≡ false = grind arith in
     rw b (last_false (nat_le m.first k))
-

@@ -5,12 +5,11 @@ ghost use Rattle.key_pitch.specs.declared.fault.TuneFault.TheVariants.{TooManyPe
 ghost use Rattle.key_pitch.specs.Tables.{IsKeyBound};
 ghost use Rattle.key_pitch.specs.Sums.{Sums, SumsIf, IsSmall, IsSmallIf};
 
+use crate::fault::TuneFault;
+use crate::sum::Sum;
 use kbm_text::Mapping;
 use mt_base::{Bracket, Grain};
 use scl_text::{Entry, Scale};
-
-use crate::fault::TuneFault;
-use crate::sum::Sum;
 
 // A pitch that is a sum of more ratios may have bounds more than a thousandth of a cent apart.
 const TERMS: u32 = 1_700;
@@ -56,7 +55,6 @@ fn degree(scale: &Scale, degree: i32) -> Sum
     let (periods, place) = divided(degree, size);
     step(scale, size).repeated(periods).plus(step(scale, place))
 }
-
 
 // An entry of the map, so many repetitions of the map away.
 fn mapped(scale: &Scale, mapping: &Mapping, turns: i32, entry: Option<u16>) -> Option<Sum>
@@ -122,7 +120,12 @@ fn key_pitch(scale: &Scale, mapping: &Mapping, tuned: Sum, key: u8) -> Option<Su
 }
 
 // The bounds of the pitch of a key, refused where it is a sum of too many ratios.
-pub fn bounds(scale: &Scale, mapping: &Mapping, tuned: Sum, key: u8) -> Result<Option<Bracket>, TuneFault>
+pub fn bounds(
+    scale: &Scale,
+    mapping: &Mapping,
+    tuned: Sum,
+    key: u8,
+) -> Result<Option<Bracket>, TuneFault>
     requires key { key ≤ 127 }
     requires tuned { SumsIf (terms_above_middle (steps_of scale.now.entries.items) (view_mapping mapping.now) mapping.now.reference) (ratios_above_middle (steps_of scale.now.entries.items) (view_mapping mapping.now) mapping.now.reference) (above_middle (steps_of scale.now.entries.items) (view_mapping mapping.now) mapping.now.reference) (Some tuned) }
     requires small { IsSmall (2 ^ 80) (2 ^ 22) tuned }

@@ -4,10 +4,9 @@
 mod aim;
 mod fault;
 mod keys;
-
 mod sum;
-
+mod table;
 
 pub use aim::Aim;
 pub use fault::TuneFault;
-
+pub use table::KeyTable;

@@ -10,5 +10,5 @@ returns-clause-sum c =
     record {
       counted = c.ratio-above.ensures.sum.counted;
       bounds = raised c.args.nanohertz 440000000000 1 ((c.args.nanohertz, 440000000000) ∷ []) (pos 220800000000000) (bounds_of c.ratio-above.result.bracket) _ c.ratio-above.ensures.sum.bounds
-      (omega (arith, ints, s.low, s.order, s.high)) (omega (arith, ints, s.low, s.order, s.high));
+          (omega (arith, ints, s.low, s.order, s.high)) (omega (arith, ints, s.low, s.order, s.high));
     }
