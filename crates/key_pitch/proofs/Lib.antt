@@ -4,3 +4,4 @@ pub mod Sums
 pub mod Steps
 pub mod Placed
 pub mod Few
+pub mod Filled

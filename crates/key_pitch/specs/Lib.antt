@@ -2,3 +2,4 @@ pub mod Views
 pub mod Sums
 pub mod Tables
 pub mod Causes
+pub mod Aims

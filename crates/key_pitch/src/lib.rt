@@ -5,6 +5,8 @@ mod aim;
 mod fault;
 mod keys;
 mod sum;
+mod table;
 
 pub use aim::Aim;
 pub use fault::TuneFault;
+pub use table::KeyTable;

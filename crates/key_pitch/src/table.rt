@@ -1,0 +1,72 @@
+ghost use Rattle.key_pitch.specs.Tables.{AreNarrow};
+
+use crate::aim::Aim;
+use crate::fault::TuneFault;
+use crate::keys::{above_middle, bounds};
+use kbm_text::Mapping;
+use mt_base::Bracket;
+use scl_text::Scale;
+
+/// The bounds of the pitch of each key, from 0 to 127.
+#[derive(Clone, Copy, Debug)]
+pub struct KeyTable {
+    pitches: [Option<Bracket>; 128],
+    pub ghost narrow: { AreNarrow pitches },
+}
+
+impl KeyTable {
+    ghost use Rattle.std.specs.Prelude.{◌≡◌, ◌≢◌, ◌≤◌, ◌≤ℤ◌, ◌-ℤ◌, pos, None, IfSome, IfOk, IfErr};
+    ghost use Rattle.retune_model.specs.Scale.{above_middle};
+    ghost use Rattle.retune_model.specs.Table.{IsTable, AreFewTerms, one_scale};
+    ghost use Rattle.key_pitch.specs.Views.{steps_of, view_mapping, bounds_if};
+    ghost use Rattle.key_pitch.specs.Causes.{Refuses};
+    ghost use Rattle.key_pitch.specs.Aims.{table_of, tuning_aim, bend_aim};
+
+    /// The table of a scale and a mapping. Refused where the mapping leaves out the reference key, and
+    /// where a key is a sum of more than 1,700 ratios: the least such key is named.
+    pub fn new(scale: &Scale, mapping: &Mapping) -> Result<KeyTable, TuneFault>
+        ensures table { IfOk result (λ t. IsTable (one_scale (steps_of scale.now.entries.items) (view_mapping mapping.now)) (λ key onset. table_of t key)) }
+        ensures few { IfOk result (λ t. AreFewTerms (one_scale (steps_of scale.now.entries.items) (view_mapping mapping.now))) }
+        ensures mapped { IfOk result (λ t. above_middle (steps_of scale.now.entries.items) (view_mapping mapping.now) mapping.now.reference ≢ None) }
+        ensures cause { IfErr result (Refuses (steps_of scale.now.entries.items) (view_mapping mapping.now)) }
+    {
+        let Some(tuned) = above_middle(scale, mapping, mapping.reference) else {
+            return Err(TuneFault::ReferenceUnmapped {
+                key: mapping.reference,
+            });
+        };
+        let mut pitches = [None; 128];
+        for key in 0..128u8 {
+            pitches[key as usize] = bounds(scale, mapping, tuned, key)?;
+        }
+        Ok(KeyTable { pitches })
+    }
+
+    /// The bounds of the pitch of a key of at most 127, at most a thousandth of a cent apart. None where
+    /// the mapping leaves the key out.
+    pub fn pitch(&self, key: u8) -> Option<Bracket>
+        requires key { key ≤ 127 }
+        ensures bounds { bounds_if result ≡ table_of self.now key }
+        ensures order { IfSome result (λ b. b.lo.0 ≤ℤ b.hi.0) }
+        ensures narrow { IfSome result (λ b. (b.hi.0 -ℤ b.lo.0) ≤ℤ pos 32000000) }
+    {
+        self.pitches[key as usize]
+    }
+
+    /// What a tuning message is to tell of a key of at most 127.
+    pub fn mts_aim(&self, key: u8) -> Aim
+        requires key { key ≤ 127 }
+        ensures aim { result ≡ tuning_aim (table_of self.now key) }
+    {
+        let Some(bracket) = self.pitches[key as usize] else {
+            return Aim::Unmapped;
+        };
+        let value = (bracket.lo.0 + 97_656_250).div_euclid(195_312_500);
+        if value < 0 || 2_097_150 < value {
+            return Aim::OutOfDevice;
+        }
+        Aim::Mts {
+            value: value as u32,
+        }
+    }
+}
