@@ -26,12 +26,6 @@ abbrev pub status_if : Option Fault → ℕ
 status_if None = 0
 status_if (Some fault) = status_of fault
 
--- a fault that comes before the store
-abbrev pub IsEarly : Fault → Type 0
-IsEarly Store = ⊥
-IsEarly Say = ⊥
-IsEarly _ = Unit {0}
-
 -- ---- the output
 
 -- the same format, division and number of tracks, with other events
@@ -69,20 +63,3 @@ ArePlayed targets keys = (k : ℕ) → k < 128 → get_or keys k false ≡ true 
 abbrev pub IsRefusal : List (Option ℕ) → Survey → Fault → Type 0
 IsRefusal targets found (NotYet kind) = ((kind ≡ 2) × (found.taken ≡ false)) ⊎ ((kind ≡ 3) × (found.taken ≡ true) × ((k : ℕ) × IsUnplayed targets found.keys k))
 IsRefusal targets found _ = ⊥
-
--- the first fault of the input, or want of memory
-abbrev pub IsInputFault : List ℕ → Fault → Type 0
-IsInputFault input (Smf offset kind) = file_at input ≡ Err (offset, kind)
-IsInputFault input Memory = Unit {0}
-IsInputFault input _ = ⊥
-
--- ---- what is made
-
--- The output and the report that an input gives, where these are the targets of the 128 keys.
-pub record IsMade (targets : List (Option ℕ)) (input output report : List ℕ) : Type 0 where
-  pub source : MidiFile
-  pub spelled : Spells input source
-  pub taken : AllByRecursion (λ e. is_taken e.what ≡ true) (merged source)
-  pub played : (k : ℕ) → k < 128 → uses_key k (merged source) ≡ true → is_some (get_or targets k None) ≡ true
-  pub is_output : output ≡ file_bytes (dumped_file targets source)
-  pub is_report : report ≡ report_of (merged source)

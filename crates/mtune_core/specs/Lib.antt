@@ -6,3 +6,4 @@ pub mod Survey
 pub mod Chosen
 pub mod Putting
 pub mod Answers
+pub mod Causes

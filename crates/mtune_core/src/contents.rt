@@ -1,7 +1,10 @@
-ghost use Rattle.std.specs.Prelude.{◌≡◌, ◌≤◌, length, IfOk, IfErr};
+ghost use Rattle.std.specs.Prelude.{◌≡◌, ◌≤◌, length, IfOk, IfErr, OnOk};
+ghost use Rattle.scala_lines.specs.Lines.{lines_of};
+ghost use Rattle.scl_text.specs.Spelling.{ScaleText};
 ghost use Rattle.midi_model.specs.Spelling.{Spells};
 ghost use Rattle.smf_read.specs.Files.{view_file};
-ghost use Rattle.mtune_core.specs.Answers.{IsEarly, IsInputFault};
+ghost use Rattle.mtune_files.specs.Names.{IsHeld};
+ghost use Rattle.mtune_core.specs.Causes.{LoadCause, TextCause, SpellCause};
 
 use crate::outcome::Fault;
 use mtune_files::{Files, LoadFault, Which};
@@ -23,10 +26,13 @@ pub fn load<F: Files>(
     name: &str,
     limit: u32,
 ) -> Result<Vec<u8>, Fault>
+    ensures content { IfOk result (λ v. IsHeld (F.held files.old) name.now v.items) }
     ensures short { IfOk result (λ v. length v.items ≤ limit) }
-    ensures early { IfErr result IsEarly }
+    ensures cause { IfErr result (λ e. LoadCause (F.steady files.old) (F.held files.old) (F.faults files.old) (F.faults files.new) which name.now limit e) }
+    ensures counts { OnOk result (F.faults files.new ≡ F.faults files.old) }
     ensures held { F.held files.new ≡ F.held files.old }
     ensures said { F.said files.new ≡ F.said files.old }
+    ensures steady { F.steady files.new ≡ F.steady files.old }
 {
     match files.load(alloc, which, name, limit) {
         Ok(content) => Ok(content),
@@ -39,7 +45,8 @@ pub fn load<F: Files>(
 /// The scale of a text.
 pub fn read_scale(alloc: Global, text: &[u8]) -> Result<Scale, Fault>
     requires { length text.now ≤ 262144 }
-    ensures early { IfErr result IsEarly }
+    ensures found { IfOk result (λ scale. ScaleText (lines_of text.now) scale.entries.items) }
+    ensures cause { IfErr result (λ e. TextCause text.now e) }
 {
     match read_scl(alloc, text) {
         Ok(scale) => Ok(scale),
@@ -52,8 +59,7 @@ pub fn read_scale(alloc: Global, text: &[u8]) -> Result<Scale, Fault>
 pub fn read_input(alloc: Global, bytes: &[u8]) -> Result<Smf<'_>, Fault>
     requires { length bytes.now ≤ 4194304 }
     ensures found { IfOk result (λ smf. Spells bytes.entry.now (view_file smf)) }
-    ensures early { IfErr result IsEarly }
-    ensures fault { IfErr result (λ e. IsInputFault bytes.entry.now e) }
+    ensures cause { IfErr result (λ e. SpellCause bytes.entry.now e) }
 {
     match read_smf(alloc, bytes) {
         Ok(smf) => Ok(smf),

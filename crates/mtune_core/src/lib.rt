@@ -14,7 +14,3 @@ mod targets;
 mod words;
 
 pub use outcome::{Fault, Outcome};
-pub use retune::run;
-
-#[cfg(test)]
-mod tests;

@@ -61,6 +61,18 @@ fn about(text: &str, which: Which) -> Line
     line
 }
 
+/// A line of a text, a number and the rest of the line.
+fn around(text: &str, number: u32, rest: &str) -> Line
+    requires text { length text.now ≤ 40 }
+    requires rest { length rest.now ≤ 40 }
+    ensures { result.bytes ≡ text.now ++ decimal number ++ rest.now }
+{
+    let mut line = Line::new();
+    push(&mut line, text, number);
+    line.push_str(rest);
+    line
+}
+
 /// A line of a text alone.
 fn plain(text: &str) -> Line
     requires { length text.now ≤ 40 }
@@ -88,6 +100,16 @@ pub fn line_of(fault: &Fault) -> Line
                 u32::from(kind.number()),
             )
         }
+        Fault::ReferenceUnmapped { key } => around(
+            "mtune: reference key ",
+            u32::from(*key),
+            " is not mapped\n",
+        ),
+        Fault::TooManyPeriods { key } => around(
+            "mtune: key ",
+            u32::from(*key),
+            " has more than 1700 ratio terms\n",
+        ),
         Fault::Smf { offset, kind } => two(
             "mtune: input byte ",
             *offset,

@@ -4,8 +4,10 @@ ghost use Rattle.midi_model.specs.Writing.{Written, written, file_bytes};
 ghost use Rattle.smf_read.specs.Files.{view_file};
 ghost use Rattle.std.specs.List.{AllByRecursion};
 ghost use Rattle.midi_model.specs.TuningBytes.{IsTuningValue};
-ghost use Rattle.mtune_core.specs.Answers.{output_file, dumped_file, report_of, IsEarly, IsUnplayed, ArePlayed, AreShort, IsRefusal, IsMade};
+ghost use Rattle.mtune_core.specs.Answers.{output_file, dumped_file, report_of, IsUnplayed, ArePlayed, AreShort, IsRefusal};
 ghost use Rattle.mtune_core.specs.Survey.{survey_of};
+ghost use Rattle.retune_model.specs.Table.{Scaling, IsTable, AreFewTerms};
+ghost use Rattle.mtune_core.specs.Causes.{table_fn, IsRetuned, InputCause};
 ghost use Rattle.mtune_core.specs.Putting.{written_from, view_setup};
 
 use crate::contents::read_input;
@@ -13,8 +15,9 @@ use crate::dump::{Setup, translate};
 use crate::lines::report;
 use crate::outcome::Fault;
 use crate::survey::{Survey, look_through};
-use crate::targets::Targets;
+use crate::targets::{Targets, targets};
 use event_stream::{Merge, TrackSet};
+use key_pitch::KeyTable;
 use mt_base::Memory;
 use mts_msg::dump;
 use smf_read::Smf;
@@ -56,7 +59,6 @@ fn accept(smf: &Smf<'_>, targets: &Targets) -> Result<Survey, Fault>
     ensures found { IfOk result (λ f. f ≡ survey_of (merged (view_file smf.now))) }
     ensures taken { IfOk result (λ f. f.taken ≡ true) }
     ensures played { IfOk result (λ f. ArePlayed targets.now f.keys) }
-    ensures early { IfErr result IsEarly }
     ensures playable { IfOk result (λ f. IsPlayable (length (view_file smf.now).tracks) (merged (view_file smf.now))) }
     ensures refused { IfErr result (λ e. IsRefusal targets.now (survey_of (merged (view_file smf.now))) e) }
 {
@@ -94,7 +96,6 @@ fn make(alloc: Global, smf: &Smf<'_>, targets: &Targets, found: &Survey) -> Resu
     requires short { AreShort (view_file smf.now) }
     ensures output { IfOk result (λ made. made.output.items ≡ file_bytes (dumped_file targets.now (view_file smf.now))) }
     ensures report { IfOk result (λ made. made.report.items ≡ report_of (merged (view_file smf.now))) }
-    ensures early { IfErr result IsEarly }
     ensures memory { IfErr result (λ e. e ≡ Fault.Memory) }
 {
     let setup = Setup {
@@ -111,18 +112,18 @@ fn make(alloc: Global, smf: &Smf<'_>, targets: &Targets, found: &Survey) -> Resu
     Ok(Made { output, report })
 }
 
-/// What an input gives in a scale with these targets.
-pub fn retuned(alloc: Global, targets: &Targets, input: &[u8]) -> Result<Made, Fault>
-    requires len { length input.now ≤ 4194304 }
-    requires values { AllByRecursion IsTuningValue targets.now }
-    ensures early { IfErr result IsEarly }
-    ensures made { IfOk result (λ made. IsMade targets.now input.now made.output.items made.report.items) }
+/// What an input gives by a table of the keys' pitches.
+pub fn retuned(alloc: Global, table: &KeyTable, input: &[u8]) -> Result<Made, Fault>
+    requires { length input.now ≤ 4194304 }
+    ensures made { (scaling : Scaling) → IsTable scaling (table_fn table.now) → AreFewTerms scaling → IfOk result (λ made. IsRetuned scaling (table_fn table.now) input.now made.output.items made.report.items) }
+    ensures cause { IfErr result (λ e. InputCause (table_fn table.now) input.now e) }
 {
+    let targets = targets(table);
     match read_input(alloc, input) {
         Err(fault) => Err(fault),
-        Ok(smf) => match accept(&smf, targets) {
+        Ok(smf) => match accept(&smf, &targets) {
             Err(fault) => Err(fault),
-            Ok(found) => make(alloc, &smf, targets, &found),
+            Ok(found) => make(alloc, &smf, &targets, &found),
         },
     }
 }

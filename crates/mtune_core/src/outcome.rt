@@ -17,11 +17,13 @@ pub struct Outcome {
 pub enum Fault {
     /// The words aren't those of the command.
     Usage { kind: u8 },
-    /// What isn't built yet: 1 a ratio in the scale, 2 an event, 3 a key that the device can't play.
+    /// What isn't built yet: 2 an event, 3 a key that the device can't play.
     NotYet { kind: u8 },
     Load { which: Which },
     TooLong { which: Which },
     Scl { line: u32, kind: SclKind },
+    ReferenceUnmapped { key: u8 },
+    TooManyPeriods { key: u8 },
     Smf { offset: u32, kind: SmfKind },
     Store,
     Say,
@@ -34,7 +36,12 @@ pub fn status(fault: &Fault) -> u8
 {
     match fault {
         Fault::Usage { .. } => 1,
-        Fault::NotYet { .. } | Fault::TooLong { .. } | Fault::Scl { .. } | Fault::Smf { .. } => 2,
+        Fault::NotYet { .. }
+        | Fault::TooLong { .. }
+        | Fault::Scl { .. }
+        | Fault::ReferenceUnmapped { .. }
+        | Fault::TooManyPeriods { .. }
+        | Fault::Smf { .. } => 2,
         Fault::Load { .. } | Fault::Store | Fault::Say => 3,
         Fault::Memory => 4,
     }

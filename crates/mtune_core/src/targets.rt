@@ -1,77 +1,56 @@
-ghost use Rattle.std.specs.Prelude.{◌≤◌, length, IfSome};
+ghost use Rattle.std.specs.Prelude.{◌≡◌, ◌<◌, ◌≤◌, ℕ, None, get_or, IfOk, IfErr};
 ghost use Rattle.std.specs.List.{AllByRecursion};
 ghost use Rattle.midi_model.specs.TuningBytes.{IsTuningValue};
+ghost use Rattle.retune_model.specs.Scale.{a440_mapping};
+ghost use Rattle.retune_model.specs.Table.{IsTable, AreFewTerms, one_scale};
+ghost use Rattle.retune_model.specs.Dump.{tuning_if};
+ghost use Rattle.key_pitch.specs.Views.{steps_of};
+ghost use Rattle.key_pitch.specs.Aims.{table_of};
+ghost use Rattle.mtune_core.specs.Causes.{IsTuneFault};
 
-use scl_text::{Entry, Scale};
-
-/// The key of the scale's first note, tuned to 440 hertz.
-const MIDDLE: i32 = 69;
-
-/// Its pitch above key 0 in grains.
-const MIDDLE_PITCH: i128 = 220_800_000_000_000;
-
-/// How many grains a nanocent has.
-const NANOCENT: i128 = 32;
-
-/// The grains of a step of the MIDI Tuning Standard, 1/16384 semitone.
-const STEP: i128 = 195_312_500;
-
-/// The greatest value that a tuning message can say.
-const GREATEST: i128 = 2_097_150;
+use crate::outcome::Fault;
+use kbm_text::Mapping;
+use key_pitch::{Aim, KeyTable, TuneFault};
+use scl_text::Scale;
+use std::alloc::Global;
 
 /// The targets of the keys on a device that takes tuning messages, in steps of 1/16384 semitone
 /// above key 0; none where the key is out of the device.
 pub type Targets = [Option<u32>; 128];
 
-/// An entry in nanocents, where it isn't a ratio.
-fn nanocents(entry: Entry) -> Option<i64> {
-    match entry {
-        Entry::Cents { nanocents } => Some(nanocents),
-        Entry::Ratio { .. } => None,
+/// The table of a scale whose first note is key 69, at 440 hertz. It takes no memory.
+pub fn table_at_440(alloc: Global, scale: &Scale) -> Result<KeyTable, Fault>
+    ensures table { IfOk result (λ t. IsTable (one_scale (steps_of scale.now.entries.items) a440_mapping) (λ key onset. table_of t key)) }
+    ensures few { IfOk result (λ t. AreFewTerms (one_scale (steps_of scale.now.entries.items) a440_mapping)) }
+    ensures cause { IfErr result (λ e. IsTuneFault (steps_of scale.now.entries.items) e) }
+{
+    match KeyTable::new(scale, &Mapping::a440(alloc)) {
+        Ok(table) => Ok(table),
+        Err(TuneFault::ReferenceUnmapped { key }) => Err(Fault::ReferenceUnmapped { key }),
+        Err(TuneFault::TooManyPeriods { key }) => Err(Fault::TooManyPeriods { key }),
     }
 }
 
-/// The value of a pitch in grains, where the device has it.
-fn value(pitch: i128) -> Option<u32>
-    ensures { IsTuningValue result }
+/// The target of a key.
+fn target(table: &KeyTable, key: u8) -> Option<u32>
+    requires { key ≤ 127 }
+    ensures value { result ≡ tuning_if (table_of table.now key) }
+    ensures fits { IsTuningValue result }
 {
-    let steps = pitch.saturating_add(STEP / 2).div_euclid(STEP);
-    if steps < 0 || steps > GREATEST {
-        return None;
+    match table.mts_aim(key) {
+        Aim::Mts { value } => Some(value),
+        Aim::Unmapped | Aim::OutOfDevice | Aim::Bend { .. } => None,
     }
-    Some(steps as u32)
 }
 
-/// The target of a key, where all the entries that it needs are in cents.
-fn target(entries: &[Entry], key: u8) -> Option<Option<u32>>
-    requires some { 1 ≤ length entries.now }
-    requires few { length entries.now ≤ 4096 }
-    requires key { key ≤ 127 }
-    ensures { IfSome result (λ target. IsTuningValue target) }
-{
-    let count = entries.len() as i32;
-    let degree = i32::from(key) - MIDDLE;
-    let periods = degree.div_euclid(count);
-    let place = degree.rem_euclid(count);
-    let period = nanocents(entries[entries.len() - 1])?;
-    let step = if place == 0 {
-        0
-    } else {
-        nanocents(entries[place as usize - 1])?
-    };
-    let above = i128::from(periods)
-        .saturating_mul(i128::from(period))
-        .saturating_add(i128::from(step));
-    Some(value(above.saturating_mul(NANOCENT).saturating_add(MIDDLE_PITCH)))
-}
-
-/// The targets of all keys, where all the entries of the scale are in cents.
-pub fn targets(scale: &Scale) -> Option<Targets>
-    ensures { IfSome result (λ targets. AllByRecursion IsTuningValue targets) }
+/// The targets of all keys.
+pub fn targets(table: &KeyTable) -> Targets
+    ensures each { (k : ℕ) → k < 128 → get_or result k None ≡ tuning_if (table_of table.now k) }
+    ensures fit { AllByRecursion IsTuningValue result }
 {
     let mut targets = [None; 128];
     for key in 0..128u8 {
-        targets[key as usize] = target(&scale.entries, key)?;
+        targets[key as usize] = target(table, key);
     }
-    Some(targets)
+    targets
 }
