@@ -4,6 +4,7 @@
 mod aim;
 mod fault;
 mod keys;
+mod nearest;
 mod sum;
 mod table;
 
