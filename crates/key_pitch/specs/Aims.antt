@@ -27,3 +27,7 @@ on_bend (Some t) = Bend t.key t.steps
 abbrev pub bend_aim : ℕ → Option Bounds → Aim
 bend_aim range None = Unmapped
 bend_aim range (Some b) = on_bend (bend_target range b)
+
+-- one table throughout
+abbrev pub by_onset : KeyTable → ℕ → ℕ → Option Bounds
+by_onset t key onset = table_of t key

@@ -2,6 +2,7 @@
 #![tactic(auto)]
 
 mod aim;
+mod aims;
 mod fault;
 mod keys;
 mod nearest;
@@ -9,5 +10,6 @@ mod sum;
 mod table;
 
 pub use aim::Aim;
+pub use aims::Aims;
 pub use fault::TuneFault;
 pub use table::KeyTable;
