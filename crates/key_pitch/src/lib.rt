@@ -13,3 +13,6 @@ pub use aim::Aim;
 pub use aims::Aims;
 pub use fault::TuneFault;
 pub use table::KeyTable;
+
+#[cfg(test)]
+mod tests;
