@@ -1,5 +1,5 @@
 -- What a table tells about a key (this project's own).
-use Rattle.std.specs.Prelude.{ℕ, ℤ, ◌≤◌, get_or, Option, Some, None}
+use Rattle.std.specs.Prelude.{ℕ, get_or, Option, Some, None}
 use Rattle.key_pitch.specs.declared.aim.Aim.{Aim}
 use Rattle.key_pitch.specs.declared.aim.Aim.TheVariants.{Unmapped, OutOfDevice, Mts, Bend}
 use Rattle.key_pitch.specs.declared.table.KeyTable.{KeyTable}

@@ -1,4 +1,4 @@
-use Rattle.std.proofs.Common.{refl, pos, ◌+ℤ◌, ◌-ℤ◌, ◌*ℤ◌, ◌*◌, ◌≡◌, ◌∙◌, arith, rules, ℤ, to_z, of_z, w32}
+use Rattle.std.proofs.Common.{refl, pos, ◌+ℤ◌, ◌-ℤ◌, ◌*ℤ◌, ◌*◌, ◌≡◌, arith, rules}
 use Rattle.std.proofs.lemmas.Int.{ints}
 use Rattle.retune_model.specs.Table.{nearest_steps}
 use Rattle.key_pitch.proofs.Rounding.{steps_is, steps_near}

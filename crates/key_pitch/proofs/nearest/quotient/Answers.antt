@@ -1,6 +1,6 @@
-use Rattle.std.proofs.Common.{rules, ◌≡◌, ◌∙◌, ap, sym, ℤ, to_z, of_z, arith}
+use Rattle.std.proofs.Common.{rules, ◌∙◌, ap, to_z, of_z}
 use Rattle.std.specs.Int.{int_div_euclid, w128}
-use Rattle.std.proofs.lemmas.Int.{ints, to_z-of_z}
+use Rattle.std.proofs.lemmas.Int.{to_z-of_z}
 use Rattle.key_pitch.proofs.nearest.quotient.Goals as goal
 
 pub returns : goal.returns
