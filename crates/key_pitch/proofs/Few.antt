@@ -1,15 +1,15 @@
 -- Keys whose pitch is a sum of few ratios, and of many.
-use Rattle.std.proofs.Common.{◌≡◌, ℕ, ◌+◌, ◌*◌, ◌^◌, ◌<◌, ◌≤◌, ℤ, pos, ◌+ℤ◌, ◌-ℤ◌, arith, refl, sym, ◌∙◌, ap, subst, List, Option, Some, None, Bool, true, false}
-use Rattle.std.specs.Prelude.{◌≤ℤ◌, if◌then◌else◌}
+use Rattle.std.proofs.Common.{◌≡◌, ℕ, ◌+◌, ◌*◌, ◌^◌, ◌<◌, ◌≤◌, pos, arith, refl, sym, subst, List, Option, Some, None, Bool, true, false}
+use Rattle.std.specs.Prelude.{if◌then◌else◌}
 use Rattle.std.proofs.lemmas.Int.{ints}
 use Rattle.mt_base.specs.Pitch.{Pitch, exactly}
 use Rattle.retune_model.specs.Scale.{Step, Mapping, above_middle, terms_above_middle, from_reference, is_mapped_range, terms_if, scale_pitch, term_count, ratios_of_key}
 use Rattle.retune_model.specs.Table.{Bound}
 use Rattle.key_pitch.specs.declared.sum.Sum.{Sum}
 use Rattle.key_pitch.specs.Views.{bounds_of}
-use Rattle.key_pitch.specs.Sums.{Sums, SumsIf, IsSmall}
+use Rattle.key_pitch.specs.Sums.{SumsIf, IsSmall}
 use Rattle.key_pitch.specs.Tables.{IsNarrow, IsKeyBound}
-use Rattle.key_pitch.proofs.Placed.{some_pitch, no_pitch}
+use Rattle.key_pitch.proofs.Placed.{some_pitch}
 
 pub none_narrow : IsNarrow None
 none_narrow = record { low = omega (arith, ints); order = omega (arith, ints); high = omega (arith, ints); narrow = omega (arith, ints) }

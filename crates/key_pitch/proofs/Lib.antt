@@ -5,3 +5,4 @@ pub mod Steps
 pub mod Placed
 pub mod Few
 pub mod Filled
+pub mod Rounding

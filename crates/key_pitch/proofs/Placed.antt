@@ -1,9 +1,9 @@
 -- The pitch of a key as the program adds it up.
-use Rattle.std.proofs.Common.{◌≡◌, ℕ, zero, suc, ◌+◌, ◌-◌, ◌*◌, ◌<◌, ◌≤◌, ℤ, pos, negsuc, ◌-ℤ◌, ◌*ℤ◌, ◌+ℤ◌, arith, refl, sym, ◌∙◌, ap, subst, List, [], ◌∷◌, ◌++◌, length, get_or, Option, Some, None, Bool, true, false}
-use Rattle.std.specs.Prelude.{slice_get, nat_eq, nat_le, if◌then◌else◌, ◌&&◌}
+use Rattle.std.proofs.Common.{◌≡◌, ℕ, ◌+◌, ◌*◌, ◌<◌, ◌≤◌, ℤ, pos, arith, refl, sym, ◌∙◌, ap, subst, List, [], ◌∷◌, ◌++◌, length, get_or, Option, Some, None, Bool, true, false}
+use Rattle.std.specs.Prelude.{nat_eq, nat_le, if◌then◌else◌, ◌&&◌}
 use Rattle.std.specs.List.{AllByRecursion}
 use Rattle.mt_base.specs.Pitch.{Pitch, added, subtracted, exactly}
-use Rattle.retune_model.specs.Scale.{Step, Mapping, IsOctaves, repeated, size_of, floor_div, floor_rem, from_middle, pitch_of_degree, terms_of_degree, ratios_of_degree, pitch_of_entry, terms_of_entry, ratios_of_entry, above_middle, terms_above_middle, ratios_above_middle, reference_pitch, from_reference, is_mapped_range, terms_if, scale_pitch, term_count, ratios_of_key}
+use Rattle.retune_model.specs.Scale.{Step, Mapping, IsOctaves, repeated, size_of, floor_div, floor_rem, from_middle, pitch_of_degree, terms_of_degree, ratios_of_degree, pitch_of_entry, terms_of_entry, ratios_of_entry, above_middle, terms_above_middle, ratios_above_middle, reference_pitch, is_mapped_range, scale_pitch, term_count, ratios_of_key}
 use Rattle.key_pitch.specs.declared.sum.Sum.{Sum}
 use Rattle.key_pitch.specs.Views.{bounds_of}
 use Rattle.key_pitch.specs.Sums.{Sums, SumsIf}

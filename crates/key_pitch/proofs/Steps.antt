@@ -1,9 +1,9 @@
 -- The steps of a scale as the program reads them.
-use Rattle.std.proofs.Common.{◌≡◌, ℕ, zero, suc, ◌+◌, ◌-◌, ◌*◌, ◌<◌, ◌≤◌, ℤ, pos, negsuc, ◌*ℤ◌, arith, refl, sym, ◌∙◌, ap, subst, List, [], ◌∷◌, ◌++◌, length, get_or, Option, Some, None, slice_index_or, Bool, true, false}
+use Rattle.std.proofs.Common.{◌≡◌, ℕ, zero, suc, ◌+◌, ◌-◌, ◌*◌, ◌<◌, ℤ, arith, refl, sym, ◌∙◌, ap, subst, List, [], ◌∷◌, ◌++◌, length, get_or, Some, slice_index_or}
 use Rattle.std.specs.Prelude.{slice_get, nat_eq, if◌then◌else◌}
-use Rattle.mt_base.specs.Pitch.{Pitch, added}
+use Rattle.mt_base.specs.Pitch.{added}
 use Rattle.scl_text.specs.declared.entry.Entry.{Entry}
-use Rattle.retune_model.specs.Scale.{Step, Ratio, Cents, step_at, pitch_of_step, ratios_at, ratios_of_step, ratio_of_step, repeated, size_of, floor_div, floor_rem, pitch_of_degree, terms_of_degree, ratios_of_degree}
+use Rattle.retune_model.specs.Scale.{Step, Ratio, step_at, pitch_of_step, ratios_at, ratios_of_step, ratio_of_step, repeated, size_of, floor_div, floor_rem, pitch_of_degree, terms_of_degree, ratios_of_degree}
 use Rattle.key_pitch.specs.declared.sum.Sum.{Sum}
 use Rattle.key_pitch.specs.Views.{step_of, steps_of}
 use Rattle.key_pitch.specs.Sums.{Sums}

@@ -1,10 +1,10 @@
 -- Bounds and counts of sums, differences and multiples.
-use Rattle.std.proofs.Common.{◌≡◌, ℕ, zero, suc, ◌+◌, ◌*◌, ◌^◌, ◌<◌, ◌≤◌, ℤ, pos, negsuc, ◌+ℤ◌, ◌-ℤ◌, ◌*ℤ◌, arith, refl, sym, ◌∙◌, ap, subst, List, [], ◌∷◌, ◌++◌, Bool, true, false, to_z, of_z, w32}
-use Rattle.std.specs.Prelude.{◌≤ℤ◌, neg_ℤ, nat_eq, if◌then◌else◌}
+use Rattle.std.proofs.Common.{◌≡◌, ℕ, suc, ◌+◌, ◌*◌, ◌≤◌, ℤ, pos, negsuc, ◌+ℤ◌, ◌-ℤ◌, ◌*ℤ◌, arith, refl, ◌∙◌, ap, List, [], ◌++◌, true, false}
+use Rattle.std.specs.Prelude.{nat_eq, if◌then◌else◌}
 use Rattle.std.specs.Int.Signed.{lt_z}
-use Rattle.std.proofs.lemmas.Int.{ints, to_z-of_z}
+use Rattle.std.proofs.lemmas.Int.{ints}
 use Rattle.std.proofs.Math.IntN.{nat_abs}
-use Rattle.std.proofs.Math.Nat.{mul-le-mul_left, mul-le-mul}
+use Rattle.std.proofs.Math.Nat.{mul-le-mul_left}
 use Rattle.mt_base.specs.Pitch.{Pitch, added, subtracted}
 use Rattle.retune_model.specs.Scale.{repeated, size_of}
 use Rattle.key_pitch.specs.declared.sum.Sum.{Sum}

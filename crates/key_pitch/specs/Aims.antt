@@ -1,5 +1,5 @@
 -- What a table tells about a key (this project's own).
-use Rattle.std.specs.Prelude.{ℕ, ℤ, ◌≤◌, get_or, Option, Some, None}
+use Rattle.std.specs.Prelude.{ℕ, get_or, Option, Some, None}
 use Rattle.key_pitch.specs.declared.aim.Aim.{Aim}
 use Rattle.key_pitch.specs.declared.aim.Aim.TheVariants.{Unmapped, OutOfDevice, Mts, Bend}
 use Rattle.key_pitch.specs.declared.table.KeyTable.{KeyTable}
@@ -27,3 +27,7 @@ on_bend (Some t) = Bend t.key t.steps
 abbrev pub bend_aim : ℕ → Option Bounds → Aim
 bend_aim range None = Unmapped
 bend_aim range (Some b) = on_bend (bend_target range b)
+
+-- one table throughout
+abbrev pub by_onset : KeyTable → ℕ → ℕ → Option Bounds
+by_onset t key onset = table_of t key

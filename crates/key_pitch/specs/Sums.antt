@@ -1,7 +1,7 @@
 -- What the program has of a pitch while it adds ratios up.
-use Rattle.std.specs.Prelude.{ℕ, ℤ, pos, neg_ℤ, ◌≡◌, ◌≤◌, ◌≤ℤ◌, List, Option, Some, None}
+use Rattle.std.specs.Prelude.{ℕ, pos, neg_ℤ, ◌≡◌, ◌≤◌, ◌≤ℤ◌, List, Option, Some, None}
 use Rattle.mt_base.specs.Pitch.{Pitch}
-use Rattle.retune_model.specs.Table.{Bounds, AreBounds}
+use Rattle.retune_model.specs.Table.{AreBounds}
 use Rattle.key_pitch.specs.declared.sum.Sum.{Sum}
 use Rattle.key_pitch.specs.Views.{bounds_of}
 

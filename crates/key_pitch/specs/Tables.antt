@@ -1,5 +1,5 @@
 -- What a table of brackets keeps, and the targets that it gives (this project's own).
-use Rattle.std.specs.Prelude.{◌≤◌, ℕ, ℤ, pos, neg_ℤ, ◌^◌, ◌≡◌, ◌-ℤ◌, ◌≤ℤ◌, List, length, get_or, Option, Some, None}
+use Rattle.std.specs.Prelude.{◌≤◌, ℕ, ℤ, pos, neg_ℤ, ◌^◌, ◌-ℤ◌, ◌≤ℤ◌, List, get_or, Option, Some, None}
 use Rattle.mt_base.specs.declared.Bracket.{Bracket}
 use Rattle.retune_model.specs.Scale.{Step, Mapping, term_count, ratios_of_key, scale_pitch}
 use Rattle.retune_model.specs.Table.{Bound}

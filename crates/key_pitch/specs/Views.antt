@@ -1,5 +1,5 @@
 -- A scale, a mapping and a bracket as the definitions see them.
-use Rattle.std.specs.Prelude.{ℕ, ℤ, List, [], ◌∷◌, Option, Some, None}
+use Rattle.std.specs.Prelude.{List, [], ◌∷◌, Option, Some, None}
 use Rattle.mt_base.specs.declared.Bracket.{Bracket}
 use Rattle.scl_text.specs.declared.entry.Entry.{Entry}
 use Rattle.scl_text.specs.declared.entry.Entry.TheVariants.{Ratio, Cents}

@@ -2,11 +2,17 @@
 #![tactic(auto)]
 
 mod aim;
+mod aims;
 mod fault;
 mod keys;
+mod nearest;
 mod sum;
 mod table;
 
 pub use aim::Aim;
+pub use aims::Aims;
 pub use fault::TuneFault;
 pub use table::KeyTable;
+
+#[cfg(test)]
+mod tests;

@@ -3,6 +3,7 @@ ghost use Rattle.key_pitch.specs.Tables.{AreNarrow};
 use crate::aim::Aim;
 use crate::fault::TuneFault;
 use crate::keys::{above_middle, bounds};
+use crate::nearest::{nearest_key, nearest_steps};
 use kbm_text::Mapping;
 use mt_base::Bracket;
 use scl_text::Scale;
@@ -68,5 +69,24 @@ impl KeyTable {
         Aim::Mts {
             value: value as u32,
         }
+    }
+
+    /// What a bend is to tell of a key of at most 127, at a sensitivity of 1 to 96 semitones.
+    pub fn bend_aim(&self, key: u8, range: u8) -> Aim
+        requires key { key ≤ 127 }
+        requires range_some { 1 ≤ range }
+        requires range_high { range ≤ 96 }
+        ensures aim { result ≡ bend_aim range (table_of self.now key) }
+    {
+        let Some(bracket) = self.pitches[key as usize] else {
+            return Aim::Unmapped;
+        };
+        let nearest = nearest_key(bracket.lo.0);
+        if nearest < 0 || 127 < nearest {
+            return Aim::OutOfDevice;
+        }
+        let key = nearest as u8;
+        let steps = nearest_steps(range, bracket.lo.0, key);
+        Aim::Bend { key, steps }
     }
 }

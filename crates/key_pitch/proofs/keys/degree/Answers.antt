@@ -1,6 +1,6 @@
-use Rattle.std.proofs.Common.{◌≡◌, ◌*◌, ◌+◌, ◌^◌, arith, rules, ◌∙◌, sym, ap, subst, length, to_z, of_z, w32}
+use Rattle.std.proofs.Common.{◌≡◌, ◌^◌, arith, rules, ◌∙◌, sym, ap, length, to_z, of_z, w32}
 use Rattle.std.specs.Prelude.{vec_len}
-use Rattle.std.proofs.lemmas.Int.{ints, to_z-of_z}
+use Rattle.std.proofs.lemmas.Int.{to_z-of_z}
 use Rattle.retune_model.specs.Scale.{size_of, floor_div, floor_rem}
 use Rattle.key_pitch.specs.Views.{steps_of}
 use Rattle.key_pitch.proofs.Steps.{steps_length, degree_sums}

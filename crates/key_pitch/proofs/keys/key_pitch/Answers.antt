@@ -1,9 +1,9 @@
-use Rattle.std.proofs.Common.{◌≡◌, ◌≤◌, ◌*◌, ◌+◌, ◌^◌, arith, rules, ◌∙◌, sym, ap, subst, pos, [], true, false}
+use Rattle.std.proofs.Common.{◌≡◌, ◌^◌, arith, subst, [], false}
 use Rattle.std.proofs.lemmas.Int.{ints}
 use Rattle.mt_base.specs.Pitch.{exactly}
 use Rattle.retune_model.specs.Scale.{is_mapped_range}
 use Rattle.key_pitch.specs.Views.{steps_of, view_mapping}
-use Rattle.key_pitch.specs.Sums.{Sums, SumsIf, IsSmall}
+use Rattle.key_pitch.specs.Sums.{Sums}
 use Rattle.key_pitch.proofs.Placed.{some_pitch, no_pitch, key_sums, key_left_out, key_outside, inside, outside_low, outside_high}
 use Rattle.key_pitch.proofs.Sums.{smaller}
 use Rattle.key_pitch.proofs.keys.key_pitch.Goals as goal

@@ -1,4 +1,4 @@
-use Rattle.std.proofs.Common.{◌≡◌, ◌*◌, ◌+◌, ◌^◌, arith, rules, ◌∙◌, ap, to_z, of_z, w32}
+use Rattle.std.proofs.Common.{◌^◌, arith, ap, w32}
 use Rattle.std.proofs.lemmas.Int.{ints, to_z-of_z}
 use Rattle.retune_model.specs.Scale.{size_of}
 use Rattle.key_pitch.specs.Views.{steps_of, view_mapping}

@@ -1,4 +1,4 @@
-use Rattle.std.proofs.Common.{◌≡◌, arith, pos, [], ◌∷◌}
+use Rattle.std.proofs.Common.{arith, pos, [], ◌∷◌}
 use Rattle.std.proofs.lemmas.Int.{ints}
 use Rattle.key_pitch.specs.Views.{bounds_of}
 use Rattle.key_pitch.proofs.Bounds.{raised}

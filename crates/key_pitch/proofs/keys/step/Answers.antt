@@ -1,5 +1,4 @@
-use Rattle.std.proofs.Common.{[], ◌≡◌, ◌-◌, ◌<◌, arith, rules, ◌∙◌, sym, subst, length, slice_index_or, Some}
-use Rattle.std.specs.Prelude.{slice_get}
+use Rattle.std.proofs.Common.{[], ◌-◌, arith, rules, ◌∙◌, subst, Some}
 use Rattle.std.proofs.lemmas.Int.{ints}
 use Rattle.std.proofs.Common.{ap}
 use Rattle.mt_base.specs.Pitch.{exactly}

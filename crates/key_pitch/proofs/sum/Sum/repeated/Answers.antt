@@ -1,8 +1,8 @@
-use Rattle.std.proofs.Common.{◌≡◌, ◌*◌, ℤ, pos, ◌*ℤ◌, to_z, of_z, w32, ap, sym, ◌∙◌, true, false}
+use Rattle.std.proofs.Common.{◌*◌, pos, ◌*ℤ◌, to_z, of_z, w32, ap, sym, ◌∙◌}
 use Rattle.std.specs.Int.Signed.{lt_z}
 use Rattle.retune_model.specs.Scale.{size_of}
 use Rattle.std.proofs.lemmas.Int.{to_z-of_z}
-use Rattle.key_pitch.proofs.Sums.{Repeats, RepeatsTurned, size_abs, up_sums, down_sums, up_small, down_small}
+use Rattle.key_pitch.proofs.Sums.{size_abs, up_sums, down_sums, up_small, down_small}
 use Rattle.key_pitch.proofs.sum.Sum.repeated.Goals as goal
 
 pub returns-then-turns-lt0-clause-sum : goal.returns-then-turns-lt0-clause-sum

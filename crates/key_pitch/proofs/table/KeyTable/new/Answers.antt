@@ -1,4 +1,4 @@
-use Rattle.std.proofs.Common.{arith, ◌∙◌, length}
+use Rattle.std.proofs.Common.{arith, ◌∙◌}
 use Rattle.std.proofs.lemmas.List.{length-set}
 use Rattle.key_pitch.specs.Views.{steps_of, view_mapping}
 use Rattle.key_pitch.proofs.Filled.{filled}
