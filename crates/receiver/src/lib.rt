@@ -1,0 +1,8 @@
+//! The receiver of a stream of MIDI events: what each channel's state is. All sizes are fixed, and nothing
+//! here takes memory.
+#![tactic(auto)]
+
+mod others;
+mod param;
+
+pub use param::Param;
