@@ -1,1 +1,3 @@
 pub mod Putting
+pub mod Tidy
+pub mod Fixed

@@ -4,5 +4,8 @@
 
 mod others;
 mod param;
+mod role;
+mod state;
 
 pub use param::Param;
+pub use state::{ChannelState, Voice};

@@ -1,5 +1,6 @@
 ghost use Rattle.std.specs.Prelude.{◌≡◌, ◌<◌, ◌≤◌, ◌^◌};
 ghost use Rattle.midi_model.specs.Params.{rank, default_value, pair_eq};
+ghost use Rattle.receiver.specs.Kept.{is_apart};
 ghost use Rattle.receiver.specs.Params.{numbered, parameter_of};
 
 /// A registered (RPN) or non-registered (NRPN) parameter by its number's high and low byte, and its value:
@@ -29,6 +30,13 @@ pub(crate) fn default_of(registered: bool, high: u8, low: u8) -> (u8, u8)
         5 => (0, 64),
         _ => (64, 0),
     }
+}
+
+/// Whether a parameter is one of those that are kept apart: RPN 0, 1, 2 and 5.
+pub(crate) fn is_kept_apart(rank: u16) -> bool
+    ensures { result ≡ is_apart rank }
+{
+    rank == 0 || rank == 1 || rank == 2 || rank == 5
 }
 
 impl Param {

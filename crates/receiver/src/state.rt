@@ -1,0 +1,244 @@
+ghost use Rattle.std.specs.Prelude.{◌≡◌, ◌≢◌, ◌≤◌, ◌<◌, ◌↔◌, ℕ, None, IsTrue, length, true, replicate, slice_index, get_or};
+ghost use Rattle.midi_model.specs.Channel.{default_controls};
+ghost use Rattle.receiver.specs.Params.{entries_of};
+ghost use Rattle.receiver.specs.Kept.{is_canonical, are_others, is_apart};
+
+use crate::others::{has_room, put_in, value_in};
+use crate::param::{Param, is_kept_apart, rank_of};
+use crate::role::{Purpose, Selected, purpose_of, selected_by};
+use arrayvec::ArrayVec;
+use mt_base::Msg;
+use tab::Tab;
+
+/// The sound that a program message chose: both bytes of the bank, and the program.
+#[derive(Clone, Copy, Debug, Default, PartialEq, Eq)]
+pub struct Voice {
+    pub bank_high: u8,
+    pub bank_low: u8,
+    pub program: u8,
+}
+
+/// The state of one channel.
+#[derive(Drop)]
+pub struct ChannelState {
+    /// The controllers by number. Those that aren't values of their own (6, 38, 96 to 101) stay 0.
+    pub controls: Tab<120>,
+    /// The pressures of the keys.
+    pub keys: Tab<128>,
+    /// The registered parameters 0, 1, 2 and 5.
+    pub fixed: [(u8, u8); 4],
+    /// All other parameters that aren't at their defaults: the registered ones first, then by high and low byte.
+    pub others: ArrayVec<Param, 16>,
+    pub rpn: (u8, u8),
+    pub nrpn: (u8, u8),
+    /// Whether a registered parameter was selected last.
+    pub registered: bool,
+    pub tuning: Option<u8>,
+    pub voice: Voice,
+    pub bend: u16,
+    pub pressure: u8,
+    pub ghost controls_over: { controls.defaults ≡ default_controls },
+    pub ghost keys_over: { keys.defaults ≡ replicate 128 0 },
+    pub ghost ordered: { is_canonical (entries_of others.items) ≡ true },
+    pub ghost others_fit: { are_others (entries_of others.items) ≡ true },
+    pub ghost rpn_fits: { (rpn.0 ≤ 127) × (rpn.1 ≤ 127) },
+    pub ghost nrpn_fits: { (nrpn.0 ≤ 127) × (nrpn.1 ≤ 127) },
+}
+
+/// The defaults of the controllers.
+const CONTROLS: [u8; 120] = [
+    0, 0, 0, 0, 0, 0, 0, 100, 64, 0, 64, 127, 0, 0, 0, 0, 0, 0, 0, 0, 0, 0, 0, 0, 0, 0, 0, 0, 0, 0,
+    0, 0, 0, 0, 0, 0, 0, 0, 0, 0, 0, 0, 0, 0, 0, 0, 0, 0, 0, 0, 0, 0, 0, 0, 0, 0, 0, 0, 0, 0, 0, 0,
+    0, 0, 0, 0, 0, 0, 0, 0, 64, 64, 64, 64, 64, 64, 64, 64, 64, 64, 0, 0, 0, 0, 0, 0, 0, 0, 0, 0,
+    0, 40, 0, 0, 0, 0, 0, 0, 0, 0, 0, 0, 0, 0, 0, 0, 0, 0, 0, 0, 0, 0, 0, 0, 0, 0, 0, 0, 0, 0,
+];
+
+impl ChannelState {
+    ghost use Rattle.mt_base.specs.Valid.{IsValidMsg};
+    ghost use Rattle.midi_model.specs.Params.{rank, put, value_of};
+    ghost use Rattle.midi_model.specs.Channel.{default_channel, apply, role, target, with_high, with_low, controlled, ResetControllers};
+    ghost use Rattle.receiver.specs.Params.{numbered, parameter_of};
+    ghost use Rattle.receiver.specs.Roles.{target_of, HasValue};
+    ghost use Rattle.receiver.specs.State.{own_of, params_of, counted, program_after, program_chosen};
+
+    /// A channel as it is at the start.
+    pub fn new() -> ChannelState
+        ensures own { own_of result ≡ default_channel }
+        ensures keys { result.keys.items ≡ replicate 128 0 }
+        ensures tuning { result.tuning ≡ None }
+    {
+        ChannelState {
+            controls: Tab::new(CONTROLS),
+            keys: Tab::new([0; 128]),
+            fixed: [(2, 0), (64, 0), (64, 0), (0, 64)],
+            others: ArrayVec::new(),
+            rpn: (127, 127),
+            nrpn: (127, 127),
+            registered: true,
+            tuning: None,
+            voice: Voice::default(),
+            bend: 8192,
+            pressure: 0,
+        }
+    }
+
+    /// What data entry writes to now.
+    fn target(&self) -> Selected
+        ensures target { target_of result ≡ target (own_of self.now).selection }
+        ensures value { HasValue result }
+    {
+        if self.registered {
+            selected_by(true, self.rpn)
+        } else {
+            selected_by(false, self.nrpn)
+        }
+    }
+
+    /// The value of a parameter.
+    fn value(&self, registered: bool, high: u8, low: u8) -> (u8, u8)
+        ensures { result ≡ value_of (own_of self.now).params (numbered registered high low) }
+    {
+        let rank = rank_of(registered, high, low);
+        if !is_kept_apart(rank) {
+            return value_in(self.others.as_slice(), registered, high, low);
+        }
+        if rank == 0 {
+            self.fixed[0]
+        } else if rank == 1 {
+            self.fixed[1]
+        } else if rank == 2 {
+            self.fixed[2]
+        } else {
+            self.fixed[3]
+        }
+    }
+
+    /// Gives a value to one of the parameters that are kept apart.
+    fn set_apart(&mut self, param: Param)
+        requires high { param.high ≤ 127 }
+        requires low { param.low ≤ 127 }
+        requires apart { is_apart (rank (parameter_of param)) ≡ true }
+        ensures own { own_of self.new ≡ record (own_of self.old) { params = put (parameter_of param) param.value (own_of self.old).params } }
+        ensures keys { self.new.keys ≡ self.old.keys }
+        ensures tuning { self.new.tuning ≡ self.old.tuning }
+    {
+        let rank = param.rank();
+        if rank == 0 {
+            self.fixed[0] = param.value;
+        } else if rank == 1 {
+            self.fixed[1] = param.value;
+        } else if rank == 2 {
+            self.fixed[2] = param.value;
+        } else {
+            self.fixed[3] = param.value;
+        }
+    }
+
+    /// Gives a parameter a value.
+    fn set_value(&mut self, param: Param)
+        requires high { param.high ≤ 127 }
+        requires low { param.low ≤ 127 }
+        requires no_program { rank (parameter_of param) ≢ 3 }
+        requires no_zone { rank (parameter_of param) ≢ 6 }
+        requires room { counted (record (own_of self.old) { params = put (parameter_of param) param.value (own_of self.old).params }) ≤ 16 }
+        ensures own { own_of self.new ≡ record (own_of self.old) { params = put (parameter_of param) param.value (own_of self.old).params } }
+        ensures keys { self.new.keys ≡ self.old.keys }
+        ensures tuning { self.new.tuning ≡ self.old.tuning }
+    {
+        if is_kept_apart(param.rank()) {
+            self.set_apart(param);
+        } else {
+            put_in(&mut self.others, param);
+        }
+    }
+
+    /// Whether at most 16 parameters count now.
+    fn is_within_limit(&self) -> bool
+        ensures { IsTrue result ↔ (counted (own_of self.now) ≤ 16) }
+    {
+        self.others.len() <= 16
+    }
+
+    /// Whether a parameter can be given this value.
+    fn has_room(&self, param: Param) -> bool
+        requires high { param.high ≤ 127 }
+        requires low { param.low ≤ 127 }
+        requires no_program { rank (parameter_of param) ≢ 3 }
+        requires no_zone { rank (parameter_of param) ≢ 6 }
+        ensures { IsTrue result ↔ (counted (record (own_of self.now) { params = put (parameter_of param) param.value (own_of self.now).params }) ≤ 16) }
+    {
+        if is_kept_apart(param.rank()) {
+            self.others.len() <= 16
+        } else {
+            has_room(&self.others, param)
+        }
+    }
+
+    /// Data entry of the high byte.
+    fn enter_high(&mut self, value: u8)
+        requires room { counted (record (own_of self.old) { params = with_high value (target (own_of self.old).selection) (own_of self.old).params }) ≤ 16 }
+        ensures own { own_of self.new ≡ record (own_of self.old) { params = with_high value (target (own_of self.old).selection) (own_of self.old).params } }
+        ensures keys { self.new.keys ≡ self.old.keys }
+        ensures tuning { self.new.tuning ≡ program_chosen value (target (own_of self.old).selection) self.old.tuning }
+    {
+        match self.target() {
+            Selected::Of {
+                registered,
+                high,
+                low,
+            } => {
+                let before = self.value(registered, high, low);
+                self.set_value(Param {
+                    registered,
+                    high,
+                    low,
+                    value: (value, before.1),
+                });
+            }
+            Selected::Tuning => self.tuning = Some(value),
+            Selected::Null | Selected::Zone => {}
+        }
+    }
+
+    /// Data entry of the low byte.
+    fn enter_low(&mut self, value: u8)
+        requires room { counted (record (own_of self.old) { params = with_low value (target (own_of self.old).selection) (own_of self.old).params }) ≤ 16 }
+        ensures own { own_of self.new ≡ record (own_of self.old) { params = with_low value (target (own_of self.old).selection) (own_of self.old).params } }
+        ensures keys { self.new.keys ≡ self.old.keys }
+        ensures tuning { self.new.tuning ≡ self.old.tuning }
+    {
+        if let Selected::Of {
+            registered,
+            high,
+            low,
+        } = self.target()
+        {
+            let before = self.value(registered, high, low);
+            self.set_value(Param {
+                registered,
+                high,
+                low,
+                value: (before.0, value),
+            });
+        }
+    }
+
+    /// Reset all controllers.
+    fn reset_controllers(&mut self)
+        ensures own { own_of self.new ≡ controlled (own_of self.old) 121 0 ResetControllers }
+        ensures keys { self.new.keys ≡ self.old.keys }
+        ensures tuning { self.new.tuning ≡ self.old.tuning }
+    {
+        self.controls.set(1, 0);
+        self.controls.set(11, 127);
+        self.controls.set(64, 0);
+        self.controls.set(65, 0);
+        self.controls.set(66, 0);
+        self.controls.set(67, 0);
+        self.registered = true;
+        self.rpn = (127, 127);
+        self.nrpn = (127, 127);
+        self.bend = 8192;
+        self.pressure = 0;
+    }
+}
