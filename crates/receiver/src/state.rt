@@ -59,7 +59,7 @@ impl ChannelState {
     ghost use Rattle.midi_model.specs.Channel.{default_channel, apply, role, target, with_high, with_low, controlled, ResetControllers};
     ghost use Rattle.receiver.specs.Params.{numbered, parameter_of};
     ghost use Rattle.receiver.specs.Roles.{target_of, HasValue};
-    ghost use Rattle.receiver.specs.State.{own_of, params_of, counted, program_after, program_chosen};
+    ghost use Rattle.receiver.specs.State.{own_of, params_of, counted, program_after, program_by, program_chosen};
 
     /// A channel as it is at the start.
     pub fn new() -> ChannelState
@@ -240,5 +240,146 @@ impl ChannelState {
         self.nrpn = (127, 127);
         self.bend = 8192;
         self.pressure = 0;
+    }
+
+    /// A controller.
+    fn control(&mut self, number: u8, value: u8)
+        requires number { number ≤ 127 }
+        requires value { value ≤ 127 }
+        requires room { counted (controlled (own_of self.old) number value (role number)) ≤ 16 }
+        ensures own { own_of self.new ≡ controlled (own_of self.old) number value (role number) }
+        ensures keys { self.new.keys ≡ self.old.keys }
+        ensures tuning { self.new.tuning ≡ program_by (own_of self.old) value (role number) self.old.tuning }
+    {
+        match purpose_of(number) {
+            Purpose::Keep => self.controls.set(number as usize, value),
+            Purpose::DataHigh => self.enter_high(value),
+            Purpose::DataLow => self.enter_low(value),
+            Purpose::NrpnLowByte => {
+                self.registered = false;
+                self.nrpn = (self.nrpn.0, value);
+            }
+            Purpose::NrpnHighByte => {
+                self.registered = false;
+                self.nrpn = (value, self.nrpn.1);
+            }
+            Purpose::RpnLowByte => {
+                self.registered = true;
+                self.rpn = (self.rpn.0, value);
+            }
+            Purpose::RpnHighByte => {
+                self.registered = true;
+                self.rpn = (value, self.rpn.1);
+            }
+            Purpose::Reset => self.reset_controllers(),
+            Purpose::SoundOff | Purpose::NotesOff | Purpose::Nothing => {}
+        }
+    }
+
+    /// Takes a message to this channel. The pressures of its keys stay as they are: they depend on what sounds.
+    pub fn apply(&mut self, message: Msg)
+        requires valid { IsValidMsg message }
+        requires room { counted (apply (own_of self.old) message) ≤ 16 }
+        ensures own { own_of self.new ≡ apply (own_of self.old) message }
+        ensures keys { self.new.keys ≡ self.old.keys }
+        ensures tuning { self.new.tuning ≡ program_after (own_of self.old) message self.old.tuning }
+    {
+        match message {
+            Msg::Control { number, value, .. } => self.control(number, value),
+            Msg::Program { program, .. } => {
+                self.voice = Voice {
+                    bank_high: self.controls.get(0),
+                    bank_low: self.controls.get(32),
+                    program,
+                };
+            }
+            Msg::Pressure { value, .. } => self.pressure = value,
+            Msg::Bend { value, .. } => self.bend = value,
+            Msg::NoteOn { .. } | Msg::NoteOff { .. } | Msg::KeyPressure { .. } => {}
+        }
+    }
+
+    /// Whether data entry of the high byte leaves at most 16 parameters that count.
+    fn has_room_high(&self, value: u8) -> bool
+        ensures { IsTrue result ↔ (counted (record (own_of self.now) { params = with_high value (target (own_of self.now).selection) (own_of self.now).params }) ≤ 16) }
+    {
+        if let Selected::Of {
+            registered,
+            high,
+            low,
+        } = self.target()
+        {
+            let before = self.value(registered, high, low);
+            return self.has_room(Param {
+                registered,
+                high,
+                low,
+                value: (value, before.1),
+            });
+        }
+        self.is_within_limit()
+    }
+
+    /// Whether data entry of the low byte leaves at most 16 parameters that count.
+    fn has_room_low(&self, value: u8) -> bool
+        ensures { IsTrue result ↔ (counted (record (own_of self.now) { params = with_low value (target (own_of self.now).selection) (own_of self.now).params }) ≤ 16) }
+    {
+        if let Selected::Of {
+            registered,
+            high,
+            low,
+        } = self.target()
+        {
+            let before = self.value(registered, high, low);
+            return self.has_room(Param {
+                registered,
+                high,
+                low,
+                value: (before.0, value),
+            });
+        }
+        self.is_within_limit()
+    }
+
+    /// Whether a message to this channel leaves at most 16 parameters that count.
+    pub fn room(&self, message: Msg) -> bool
+        ensures { IsTrue result ↔ (counted (apply (own_of self.now) message) ≤ 16) }
+    {
+        if let Msg::Control { number, value, .. } = message {
+            return match purpose_of(number) {
+                Purpose::DataHigh => self.has_room_high(value),
+                Purpose::DataLow => self.has_room_low(value),
+                _ => self.is_within_limit(),
+            };
+        }
+        self.is_within_limit()
+    }
+
+    /// An equal state.
+    pub fn copy(&self) -> ChannelState
+        ensures own { own_of result ≡ own_of self.now }
+        ensures controls { result.controls ≡ self.now.controls }
+        ensures keys { result.keys ≡ self.now.keys }
+        ensures fixed { result.fixed ≡ self.now.fixed }
+        ensures others { result.others.items ≡ self.now.others.items }
+        ensures tuning { result.tuning ≡ self.now.tuning }
+    {
+        let mut others = ArrayVec::new();
+        for param in self.others.as_slice() {
+            others.push(*param);
+        }
+        ChannelState {
+            controls: self.controls.copy(),
+            keys: self.keys.copy(),
+            fixed: self.fixed,
+            others,
+            rpn: self.rpn,
+            nrpn: self.nrpn,
+            registered: self.registered,
+            tuning: self.tuning,
+            voice: self.voice,
+            bend: self.bend,
+            pressure: self.pressure,
+        }
     }
 }
