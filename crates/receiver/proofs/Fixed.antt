@@ -174,10 +174,11 @@ counts_own p v o h k = pick (rank p) refl
     pick (suc (suc (suc (suc (suc (suc zero)))))) e = absurd (k e)
     pick (suc (suc (suc (suc (suc (suc (suc n))))))) e = rw (lt-ltb 6 (suc (suc (suc (suc (suc (suc (suc n))))))) (omega arith)) refl
 
-pub is_other_own : (p : Parameter) (v : ℕ × ℕ) → IsOwn p → rank p ≢ 3 → rank p ≢ 6 → p.high ≤ 127 → p.low ≤ 127 → is_other (record { parameter = p; value = v }) ≡ true
-is_other_own p v o h k a b =
+pub is_other_own : (p : Parameter) (v : ℕ × ℕ) → IsOwn p → rank p ≢ 3 → rank p ≢ 6 → p.high ≤ 127 → p.low ≤ 127 → v.0 ≤ 127 → v.1 ≤ 127 → is_other (record { parameter = p; value = v }) ≡ true
+is_other_own p v o h k a b c d =
     both (counts (record { parameter = p; value = v })) _ (counts_own p v o h k)
-    (both _ _ (lt-ltb p.high 128 (omega (arith, a))) (lt-ltb p.low 128 (omega (arith, b))))
+    (both _ _ (both _ _ (lt-ltb p.high 128 (omega (arith, a))) (lt-ltb p.low 128 (omega (arith, b))))
+    (both _ _ (lt-ltb v.0 128 (omega (arith, c))) (lt-ltb v.1 128 (omega (arith, d)))))
 
 pub own_from : (p : Parameter) → is_apart (rank p) ≡ false → IsOwn p
 own_from p h = record {
@@ -207,11 +208,11 @@ pub counted_apart : (fixed : List (ℕ × ℕ)) (es : List Entry) (p : Parameter
     → length (filter counts (put p v (params_of fixed es))) ≡ length es
 counted_apart fixed es p v o h = ap length (not_counted p v (params_of fixed es) (apart_uncounted p v h)) ∙ counted_are fixed es o
 
-pub counted_own : (fixed : List (ℕ × ℕ)) (es : List Entry) (p : Parameter) (v : ℕ × ℕ) → is_canonical es ≡ true → are_others es ≡ true → IsOwn p → rank p ≢ 3 → rank p ≢ 6 → p.high ≤ 127 → p.low ≤ 127
+pub counted_own : (fixed : List (ℕ × ℕ)) (es : List Entry) (p : Parameter) (v : ℕ × ℕ) → is_canonical es ≡ true → are_others es ≡ true → IsOwn p → rank p ≢ 3 → rank p ≢ 6 → p.high ≤ 127 → p.low ≤ 127 → v.0 ≤ 127 → v.1 ≤ 127
     → length (filter counts (put p v (params_of fixed es))) ≡ length (put p v es)
-counted_own fixed es p v c o w h k a b =
-    ap (λ x. length (filter counts x)) (sym (set_own fixed es p v (tidy_others es c o) (record { high = omega (arith, a); low = omega (arith, b) }) w))
-    ∙ counted_are fixed (put p v es) (others_put p v es (is_other_own p v w h k a b) o)
+counted_own fixed es p v c o w h k a b x y =
+    ap (λ ps. length (filter counts ps)) (sym (set_own fixed es p v (tidy_others es c o) (record { high = omega (arith, a); low = omega (arith, b) }) w))
+    ∙ counted_are fixed (put p v es) (others_put p v es (is_other_own p v w h k a b x y) o)
 
 -- the last of the four
 pub apart_last : (r : ℕ) → is_apart r ≡ true → r ≢ 0 → r ≢ 1 → r ≢ 2 → r ≡ 5

@@ -5,7 +5,7 @@ use Rattle.std.proofs.lemmas.Bool.{cases_lt, ltb-true, lt-ltb, eqb-true, eqb-fal
 use Rattle.midi_model.specs.Params.{Parameter, Entry, rank, pair_eq, default_value, value_of, with_front, put, IsAbove, IsCanonical}
 use Rattle.midi_model.proofs.Parameters.{either, standard_by, value_of-put_same, value_of-put_other, canonical_put}
 use Rattle.midi_model.proofs.Equal.{IsSmall, AreSmall, canonical_equal, same_rank}
-use Rattle.receiver.specs.Kept.{counts, is_above, is_canonical, is_other, are_others}
+use Rattle.receiver.specs.Kept.{counts, is_above, is_canonical, is_low_value, is_other, are_others}
 use Rattle.receiver.proofs.Putting.{put_under, put_on, put_over}
 
 pub left : (x y : Bool) → (x && y) ≡ true → x ≡ true
@@ -82,7 +82,7 @@ each_put f p v (e ∷ es) h a =
       ]
     ]
 
-others_from : (es : List Entry) → are_others es ≡ true → AllByRecursion (λ e. is_other e ≡ true) es
+pub others_from : (es : List Entry) → are_others es ≡ true → AllByRecursion (λ e. is_other e ≡ true) es
 others_from [] h = tt
 others_from (e ∷ es) h = (left (is_other e) (are_others es) h, others_from es (right (is_other e) (are_others es) h))
 
@@ -101,7 +101,9 @@ small_of : (e : Entry) → is_other e ≡ true → IsSmall e.parameter
 small_of e h =
     let a = nat_lt e.parameter.high 128 in
     let b = nat_lt e.parameter.low 128 in
-    let s = right (counts e) (a && b) h in
+    let w = is_low_value e in
+    let r = right (counts e) ((a && b) && w) h in
+    let s = left (a && b) w r in
     record { high = ltb-true e.parameter.high 128 (left a b s); low = ltb-true e.parameter.low 128 (right a b s) }
 
 pub small_from : (es : List Entry) → are_others es ≡ true → AreSmall es
@@ -196,6 +198,6 @@ not_counted p v (e ∷ es) h = elim (stands p e) [
 pub all_counted : (es : List Entry) → are_others es ≡ true → filter counts es ≡ es
 all_counted [] h = refl
 all_counted (e ∷ es) h =
-    let w = nat_lt e.parameter.high 128 && nat_lt e.parameter.low 128 in
+    let w = (nat_lt e.parameter.high 128 && nat_lt e.parameter.low 128) && is_low_value e in
     let c = left (counts e) w (left (is_other e) (are_others es) h) in
     ap (λ t. cond t (e ∷ filter counts es) (filter counts es)) c ∙ ap (λ r. e ∷ r) (all_counted es (right (is_other e) (are_others es) h))

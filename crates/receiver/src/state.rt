@@ -1,7 +1,7 @@
-ghost use Rattle.std.specs.Prelude.{◌≡◌, ◌≢◌, ◌≤◌, ◌<◌, ◌↔◌, ℕ, None, IsTrue, length, true, replicate, slice_index, get_or};
+ghost use Rattle.std.specs.Prelude.{◌≡◌, ◌≢◌, ◌≤◌, ◌<◌, ◌↔◌, ℕ, Some, None, IsTrue, length, true, replicate, slice_index, get_or};
 ghost use Rattle.midi_model.specs.Channel.{default_controls};
 ghost use Rattle.receiver.specs.Params.{entries_of};
-ghost use Rattle.receiver.specs.Kept.{is_canonical, are_others, is_apart};
+ghost use Rattle.receiver.specs.Kept.{is_canonical, are_others, are_low, are_low_pairs, is_apart};
 
 use crate::others::{has_room, put_in, value_in};
 use crate::param::{Param, is_kept_apart, rank_of};
@@ -43,6 +43,13 @@ pub struct ChannelState {
     pub ghost others_fit: { are_others (entries_of others.items) ≡ true },
     pub ghost rpn_fits: { (rpn.0 ≤ 127) × (rpn.1 ≤ 127) },
     pub ghost nrpn_fits: { (nrpn.0 ≤ 127) × (nrpn.1 ≤ 127) },
+    pub ghost controls_fit: { are_low controls.items ≡ true },
+    pub ghost keys_fit: { are_low keys.items ≡ true },
+    pub ghost fixed_fit: { are_low_pairs fixed ≡ true },
+    pub ghost tuning_fits: { (v : ℕ) → tuning ≡ Some v → v ≤ 127 },
+    pub ghost voice_fits: { (voice.bank_high ≤ 127) × (voice.bank_low ≤ 127) × (voice.program ≤ 127) },
+    pub ghost bend_fits: { bend ≤ 16383 },
+    pub ghost pressure_fits: { pressure ≤ 127 },
 }
 
 /// The defaults of the controllers.
@@ -95,7 +102,7 @@ impl ChannelState {
     }
 
     /// The value of a parameter.
-    fn value(&self, registered: bool, high: u8, low: u8) -> (u8, u8)
+    fn value_at(&self, registered: bool, high: u8, low: u8) -> (u8, u8)
         ensures { result ≡ value_of (own_of self.now).params (numbered registered high low) }
     {
         let rank = rank_of(registered, high, low);
@@ -113,10 +120,21 @@ impl ChannelState {
         }
     }
 
+    /// The value of a parameter, in bytes of seven bits.
+    fn value(&self, registered: bool, high: u8, low: u8) -> (u8, u8)
+        ensures value { result ≡ value_of (own_of self.now).params (numbered registered high low) }
+        ensures high { result.0 ≤ 127 }
+        ensures low { result.1 ≤ 127 }
+    {
+        self.value_at(registered, high, low)
+    }
+
     /// Gives a value to one of the parameters that are kept apart.
     fn set_apart(&mut self, param: Param)
         requires high { param.high ≤ 127 }
         requires low { param.low ≤ 127 }
+        requires value_high { param.value.0 ≤ 127 }
+        requires value_low { param.value.1 ≤ 127 }
         requires apart { is_apart (rank (parameter_of param)) ≡ true }
         ensures own { own_of self.new ≡ record (own_of self.old) { params = put (parameter_of param) param.value (own_of self.old).params } }
         ensures keys { self.new.keys ≡ self.old.keys }
@@ -138,6 +156,8 @@ impl ChannelState {
     fn set_value(&mut self, param: Param)
         requires high { param.high ≤ 127 }
         requires low { param.low ≤ 127 }
+        requires value_high { param.value.0 ≤ 127 }
+        requires value_low { param.value.1 ≤ 127 }
         requires no_program { rank (parameter_of param) ≢ 3 }
         requires no_zone { rank (parameter_of param) ≢ 6 }
         requires room { counted (record (own_of self.old) { params = put (parameter_of param) param.value (own_of self.old).params }) ≤ 16 }
@@ -163,6 +183,8 @@ impl ChannelState {
     fn has_room(&self, param: Param) -> bool
         requires high { param.high ≤ 127 }
         requires low { param.low ≤ 127 }
+        requires value_high { param.value.0 ≤ 127 }
+        requires value_low { param.value.1 ≤ 127 }
         requires no_program { rank (parameter_of param) ≢ 3 }
         requires no_zone { rank (parameter_of param) ≢ 6 }
         ensures { IsTrue result ↔ (counted (record (own_of self.now) { params = put (parameter_of param) param.value (own_of self.now).params }) ≤ 16) }
@@ -176,6 +198,7 @@ impl ChannelState {
 
     /// Data entry of the high byte.
     fn enter_high(&mut self, value: u8)
+        requires value { value ≤ 127 }
         requires room { counted (record (own_of self.old) { params = with_high value (target (own_of self.old).selection) (own_of self.old).params }) ≤ 16 }
         ensures own { own_of self.new ≡ record (own_of self.old) { params = with_high value (target (own_of self.old).selection) (own_of self.old).params } }
         ensures keys { self.new.keys ≡ self.old.keys }
@@ -202,6 +225,7 @@ impl ChannelState {
 
     /// Data entry of the low byte.
     fn enter_low(&mut self, value: u8)
+        requires value { value ≤ 127 }
         requires room { counted (record (own_of self.old) { params = with_low value (target (own_of self.old).selection) (own_of self.old).params }) ≤ 16 }
         ensures own { own_of self.new ≡ record (own_of self.old) { params = with_low value (target (own_of self.old).selection) (own_of self.old).params } }
         ensures keys { self.new.keys ≡ self.old.keys }
@@ -301,6 +325,7 @@ impl ChannelState {
 
     /// Whether data entry of the high byte leaves at most 16 parameters that count.
     fn has_room_high(&self, value: u8) -> bool
+        requires value { value ≤ 127 }
         ensures { IsTrue result ↔ (counted (record (own_of self.now) { params = with_high value (target (own_of self.now).selection) (own_of self.now).params }) ≤ 16) }
     {
         if let Selected::Of {
@@ -322,6 +347,7 @@ impl ChannelState {
 
     /// Whether data entry of the low byte leaves at most 16 parameters that count.
     fn has_room_low(&self, value: u8) -> bool
+        requires value { value ≤ 127 }
         ensures { IsTrue result ↔ (counted (record (own_of self.now) { params = with_low value (target (own_of self.now).selection) (own_of self.now).params }) ≤ 16) }
     {
         if let Selected::Of {
@@ -343,6 +369,7 @@ impl ChannelState {
 
     /// Whether a message to this channel leaves at most 16 parameters that count.
     pub fn room(&self, message: Msg) -> bool
+        requires valid { IsValidMsg message }
         ensures { IsTrue result ↔ (counted (apply (own_of self.now) message) ≤ 16) }
     {
         if let Msg::Control { number, value, .. } = message {
