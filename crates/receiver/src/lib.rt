@@ -6,6 +6,8 @@ mod others;
 mod param;
 mod role;
 mod state;
+#[cfg(test)]
+mod tests;
 
 pub use param::Param;
 pub use state::{ChannelState, Voice};
