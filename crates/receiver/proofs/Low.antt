@@ -1,11 +1,11 @@
 -- Bytes of seven bits.
-use Rattle.std.proofs.Common.{◌≡◌, ℕ, zero, suc, ◌≤◌, ◌<◌, List, [], ◌∷◌, Bool, true, false, cond, ◌&&◌, nat_eq, nat_lt, get_or, set, refl, sym, arith}
+use Rattle.std.proofs.Common.{◌≡◌, ℕ, zero, suc, ◌≤◌, List, [], ◌∷◌, Bool, true, false, cond, ◌&&◌, nat_eq, nat_lt, get_or, set, refl, arith}
 use Rattle.std.specs.List.{AllByRecursion}
 use Rattle.std.proofs.lemmas.Bool.{ltb-true, lt-ltb}
-use Rattle.midi_model.specs.Params.{Parameter, Entry, rank, default_value, value_of, put, rpn}
+use Rattle.midi_model.specs.Params.{Parameter, Entry, rank, value_of, put, rpn}
 use Rattle.receiver.specs.Kept.{counts, is_low_value, is_other, are_others, are_low, are_low_pairs}
 use Rattle.receiver.specs.State.{params_of}
-use Rattle.receiver.proofs.Tidy.{left, right, both, each_put, others_from}
+use Rattle.receiver.proofs.Tidy.{left, right, both, each_put}
 
 pub low_set : (xs : List ℕ) (i v : ℕ) → v ≤ 127 → are_low xs ≡ true → are_low (set xs i v) ≡ true
 low_set [] i v h a = refl

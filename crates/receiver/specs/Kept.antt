@@ -1,5 +1,5 @@
 -- What the list of parameters that count for the limit of 16 keeps: the order of ranks, no default, and bytes of seven bits.
-use Rattle.std.specs.Prelude.{ℕ, List, [], ◌∷◌, Bool, true, not, ◌&&◌, ◌||◌, nat_eq, nat_lt, nat_le}
+use Rattle.std.specs.Prelude.{ℕ, List, [], ◌∷◌, Bool, true, not, ◌&&◌, ◌||◌, nat_eq, nat_lt}
 use Rattle.midi_model.specs.Params.{Entry, rank, pair_eq, default_value}
 
 -- the parameters that count: all but RPN 0, 1, 2, 3, 5 and 6

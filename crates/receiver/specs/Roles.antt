@@ -1,5 +1,5 @@
 -- What a controller is for and what data entry writes to, as the program tells them apart.
-use Rattle.std.specs.Prelude.{◌≢◌, ◌≤◌, ℕ}
+use Rattle.std.specs.Prelude.{◌≢◌, ◌≤◌}
 use Rattle.midi_model.specs.Params.{rank}
 use Rattle.midi_model.specs.Channel.{Role, Stored, EntryHigh, EntryLow, NrpnLow, NrpnHigh, RpnLow, RpnHigh, AllSoundOff, ResetControllers, AllNotesOff, Ignored, Target, Nowhere, TuningProgram, ZoneSize, Value}
 use Rattle.receiver.specs.Params.{numbered}

@@ -1,9 +1,9 @@
-use Rattle.std.proofs.Common.{◌≡◌, ◌≤◌, ◌<◌, ◌+◌, true, false, refl, arith, sym, ◌∙◌, rules, length, Bool, inl, inr}
-use Rattle.std.proofs.lemmas.Bool.{lt-ltb, ltb-true}
-use Rattle.midi_model.specs.Params.{pair_eq, default_value, put}
+use Rattle.std.proofs.Common.{◌≡◌, ◌≤◌, ◌<◌, refl, arith, sym, ◌∙◌, length, inl, inr}
+use Rattle.std.proofs.lemmas.Bool.{lt-ltb}
+use Rattle.midi_model.specs.Params.{pair_eq, default_value}
 use Rattle.midi_model.proofs.Parameters.{either}
-use Rattle.receiver.specs.Params.{parameter_of, entries_of}
-use Rattle.receiver.proofs.Putting.{Found, Absent, moved_found, moved_absent, length_found, length_default, length_other}
+use Rattle.receiver.specs.Params.{parameter_of}
+use Rattle.receiver.proofs.Putting.{moved_found, moved_absent, length_found, length_default, length_other}
 use Rattle.receiver.proofs.others.has_room.Goals as goal
 
 pub returns-in-Ok : goal.returns-in-Ok

@@ -1,5 +1,4 @@
-use Rattle.std.proofs.Common.{◌≡◌, ◌≢◌, ◌<◌, arith, map, slice_index, ◌∙◌}
-use Rattle.receiver.specs.Params.{rank_at}
+use Rattle.std.proofs.Common.{arith}
 use Rattle.receiver.proofs.Putting.{before_more, ranks_at}
 use Rattle.receiver.proofs.others.place.Goals as goal
 

@@ -1,8 +1,7 @@
-use Rattle.std.proofs.Common.{◌≡◌, ◌≤◌, ◌<◌, ◌+◌, true, false, refl, arith, sym, ap, ◌∙◌, rules, length}
-use Rattle.std.specs.Prelude.{insert, remove}
-use Rattle.midi_model.specs.Params.{pair_eq, default_value}
-use Rattle.receiver.specs.Params.{parameter_of, entries_of}
-use Rattle.receiver.proofs.Putting.{Found, Absent, moved_found, moved_absent, length_other, found_default, found_other, absent_default, absent_other}
+use Rattle.std.proofs.Common.{◌≡◌, ◌<◌, true, false, arith, sym, ap, ◌∙◌, rules, length}
+use Rattle.std.specs.Prelude.{insert}
+use Rattle.receiver.specs.Params.{entries_of}
+use Rattle.receiver.proofs.Putting.{moved_found, moved_absent, length_other, found_default, found_other, absent_default, absent_other}
 use Rattle.receiver.proofs.others.put_in.Goals as goal
 
 pub insert-requires-then-not-is_default-2 : goal.insert-requires-then-not-is_default-2

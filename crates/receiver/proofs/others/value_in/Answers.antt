@@ -1,6 +1,6 @@
 use Rattle.std.proofs.Common.{refl, ◌∙◌}
 use Rattle.receiver.specs.Params.{numbered}
-use Rattle.receiver.proofs.Putting.{Found, Absent, moved_found, moved_absent, value_found, value_absent, no_param}
+use Rattle.receiver.proofs.Putting.{moved_found, moved_absent, value_found, value_absent, no_param}
 use Rattle.receiver.proofs.others.value_in.Goals as goal
 
 pub returns-in-Ok : goal.returns-in-Ok

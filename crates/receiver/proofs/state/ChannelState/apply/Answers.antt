@@ -1,4 +1,4 @@
-use Rattle.std.proofs.Common.{◌≡◌, ◌≤◌, arith, rules}
+use Rattle.std.proofs.Common.{◌≤◌, arith}
 use Rattle.receiver.proofs.Low.{low_at}
 use Rattle.receiver.proofs.state.ChannelState.apply.Goals as goal
 

@@ -1,4 +1,4 @@
-use Rattle.std.proofs.Common.{◌≡◌, ap, ◌∙◌}
+use Rattle.std.proofs.Common.{ap, ◌∙◌}
 use Rattle.receiver.specs.Kept.{are_low}
 use Rattle.receiver.proofs.Low.{low_set}
 use Rattle.receiver.proofs.state.ChannelState.control.Goals as goal

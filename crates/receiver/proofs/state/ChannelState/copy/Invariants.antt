@@ -1,4 +1,4 @@
-use Rattle.std.proofs.Common.{◌≡◌, ◌≤◌, take, length}
+use Rattle.std.proofs.Common.{◌≡◌, take}
 use Rattle.receiver.proofs.state.ChannelState.copy.Given as goal
 
 abbrev pub invariant-loop-param : goal.invariant-loop-param

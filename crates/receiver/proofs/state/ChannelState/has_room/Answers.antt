@@ -1,4 +1,4 @@
-use Rattle.std.proofs.Common.{◌≡◌, ◌≤◌, length, arith, ◌∙◌, refl, sym, ap, true, false}
+use Rattle.std.proofs.Common.{◌≤◌, length, arith, ◌∙◌, sym, ap}
 use Rattle.std.proofs.lemmas.List.{length-map}
 use Rattle.receiver.specs.Params.{entries_of, entry_of, parameter_of}
 use Rattle.receiver.specs.Kept.{is_apart}

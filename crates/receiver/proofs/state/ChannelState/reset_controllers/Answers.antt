@@ -1,4 +1,4 @@
-use Rattle.std.proofs.Common.{◌≡◌, ◌≤◌, ℕ, List, arith, ap, ◌∙◌, refl, true, set}
+use Rattle.std.proofs.Common.{◌≡◌, ◌≤◌, ℕ, List, arith, ap, ◌∙◌, true, set}
 use Rattle.receiver.specs.Kept.{are_low}
 use Rattle.receiver.proofs.Low.{low_set}
 use Rattle.receiver.proofs.state.ChannelState.reset_controllers.Goals as goal

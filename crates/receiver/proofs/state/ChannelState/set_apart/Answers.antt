@@ -1,4 +1,4 @@
-use Rattle.std.proofs.Common.{◌≡◌, ◌≢◌, ◌≤◌, ◌<◌, length, arith, ◌∙◌, refl, sym, ap, rules}
+use Rattle.std.proofs.Common.{◌<◌, length, arith, ◌∙◌, sym, ap, rules}
 use Rattle.midi_model.specs.Params.{rank}
 use Rattle.midi_model.proofs.Equal.{IsSmall}
 use Rattle.receiver.specs.Params.{entries_of, parameter_of}

@@ -1,6 +1,5 @@
-use Rattle.std.proofs.Common.{◌≡◌, ◌≤◌, length, arith, ◌∙◌, refl, sym, ap, true, false}
-use Rattle.midi_model.specs.Params.{put}
-use Rattle.receiver.specs.Params.{entries_of, entry_of, parameter_of}
+use Rattle.std.proofs.Common.{arith, ◌∙◌, sym, ap}
+use Rattle.receiver.specs.Params.{entries_of, parameter_of}
 use Rattle.receiver.specs.Kept.{is_apart, is_canonical, are_others}
 use Rattle.receiver.specs.State.{own_of, params_of}
 use Rattle.receiver.proofs.Tidy.{others_put, ordered_put}

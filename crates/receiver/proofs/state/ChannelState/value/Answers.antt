@@ -1,4 +1,4 @@
-use Rattle.std.proofs.Common.{◌≡◌, ◌≤◌, ℕ, sym, subst}
+use Rattle.std.proofs.Common.{◌≤◌, ℕ, sym, subst}
 use Rattle.receiver.specs.Params.{entries_of, numbered}
 use Rattle.receiver.proofs.Low.{value_low}
 use Rattle.receiver.proofs.state.ChannelState.value.Goals as goal

@@ -1,4 +1,4 @@
-use Rattle.std.proofs.Common.{◌≡◌, ◌≢◌, ◌≤◌, ◌<◌, arith, ◌∙◌, refl, sym, ap, rules, true, false, subst, List}
+use Rattle.std.proofs.Common.{◌≡◌, ◌∙◌, sym, ap, rules, true, false, subst, List}
 use Rattle.midi_model.specs.Params.{rank, value_of, IsCanonical}
 use Rattle.receiver.specs.declared.param.Param.{Param}
 use Rattle.receiver.specs.Params.{entries_of, numbered}
