@@ -1,0 +1,4 @@
+pub mod Putting
+pub mod Tidy
+pub mod Fixed
+pub mod Low

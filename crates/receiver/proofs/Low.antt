@@ -1,0 +1,76 @@
+-- Bytes of seven bits.
+use Rattle.std.proofs.Common.{◌≡◌, ℕ, zero, suc, ◌≤◌, List, [], ◌∷◌, Bool, true, false, cond, ◌&&◌, nat_eq, nat_lt, get_or, set, refl, arith}
+use Rattle.std.specs.List.{AllByRecursion}
+use Rattle.std.proofs.lemmas.Bool.{ltb-true, lt-ltb}
+use Rattle.midi_model.specs.Params.{Parameter, Entry, rank, value_of, put, rpn}
+use Rattle.receiver.specs.Kept.{counts, is_low_value, is_other, are_others, are_low, are_low_pairs}
+use Rattle.receiver.specs.State.{params_of}
+use Rattle.receiver.proofs.Tidy.{left, right, both, each_put}
+
+pub low_set : (xs : List ℕ) (i v : ℕ) → v ≤ 127 → are_low xs ≡ true → are_low (set xs i v) ≡ true
+low_set [] i v h a = refl
+low_set (x ∷ xs) zero v h a = both (nat_lt v 128) (are_low xs) (lt-ltb v 128 (omega (arith, h))) (right (nat_lt x 128) (are_low xs) a)
+low_set (x ∷ xs) (suc i) v h a = both (nat_lt x 128) (are_low (set xs i v)) (left (nat_lt x 128) (are_low xs) a) (low_set xs i v h (right (nat_lt x 128) (are_low xs) a))
+
+pub low_at : (xs : List ℕ) (i : ℕ) → are_low xs ≡ true → get_or xs i 0 ≤ 127
+low_at [] i a = omega arith
+low_at (x ∷ xs) zero a = let h = ltb-true x 128 (left (nat_lt x 128) (are_low xs) a) in omega (arith, h)
+low_at (x ∷ xs) (suc i) a = low_at xs i (right (nat_lt x 128) (are_low xs) a)
+
+abbrev pub is_low_pair : ℕ × ℕ → Bool
+is_low_pair p = nat_lt p.0 128 && nat_lt p.1 128
+
+pub pair_set : (ps : List (ℕ × ℕ)) (i : ℕ) (v : ℕ × ℕ) → v.0 ≤ 127 → v.1 ≤ 127 → are_low_pairs ps ≡ true → are_low_pairs (set ps i v) ≡ true
+pair_set [] i v h k a = refl
+pair_set (p ∷ ps) zero v h k a = both (is_low_pair v) (are_low_pairs ps) (both (nat_lt v.0 128) (nat_lt v.1 128) (lt-ltb v.0 128 (omega (arith, h))) (lt-ltb v.1 128 (omega (arith, k)))) (right (is_low_pair p) (are_low_pairs ps) a)
+pair_set (p ∷ ps) (suc i) v h k a = both (is_low_pair p) (are_low_pairs (set ps i v)) (left (is_low_pair p) (are_low_pairs ps) a) (pair_set ps i v h k (right (is_low_pair p) (are_low_pairs ps) a))
+
+pair_at : (ps : List (ℕ × ℕ)) (i : ℕ) → are_low_pairs ps ≡ true → is_low_pair (get_or ps i (0, 0)) ≡ true
+pair_at [] i a = refl
+pair_at (p ∷ ps) zero a = left (is_low_pair p) (are_low_pairs ps) a
+pair_at (p ∷ ps) (suc i) a = pair_at ps i (right (is_low_pair p) (are_low_pairs ps) a)
+
+abbrev AreLow : List Entry → Type 0
+AreLow es = AllByRecursion (λ e. is_low_value e ≡ true) es
+
+others_low : (es : List Entry) → are_others es ≡ true → AreLow es
+others_low [] h = tt
+others_low (e ∷ es) h =
+    let n = nat_lt e.parameter.high 128 && nat_lt e.parameter.low 128 in
+    let one = left (is_other e) (are_others es) h in
+    (right n (is_low_value e) (right (counts e) (n && is_low_value e) one), others_low es (right (is_other e) (are_others es) h))
+
+params_low : (fixed : List (ℕ × ℕ)) (es : List Entry) → are_low_pairs fixed ≡ true → are_others es ≡ true → AreLow (params_of fixed es)
+params_low fixed es f o =
+    let three = put (rpn 5) (get_or fixed 3 (0, 0)) es in
+    let two = put (rpn 2) (get_or fixed 2 (0, 0)) three in
+    let one = put (rpn 1) (get_or fixed 1 (0, 0)) two in
+    each_put is_low_value (rpn 0) (get_or fixed 0 (0, 0)) one (pair_at fixed 0 f) (each_put is_low_value (rpn 1) (get_or fixed 1 (0, 0)) two (pair_at fixed 1 f)
+    (each_put is_low_value (rpn 2) (get_or fixed 2 (0, 0)) three (pair_at fixed 2 f) (each_put is_low_value (rpn 5) (get_or fixed 3 (0, 0)) es (pair_at fixed 3 f) (others_low es o))))
+
+default_low : (n : ℕ) → is_low_pair (cond (nat_eq n 0) (2, 0) (cond (nat_eq n 5) (0, 64) (64, 0))) ≡ true
+default_low n = pick (nat_eq n 0) (nat_eq n 5)
+  where
+    pick : (b d : Bool) → is_low_pair (cond b (2, 0) (cond d (0, 64) (64, 0))) ≡ true
+    pick true d = refl
+    pick false true = refl
+    pick false false = refl
+
+value_in_low : (es : List Entry) (p : Parameter) → AreLow es → is_low_pair (value_of es p) ≡ true
+value_in_low [] p a = default_low (rank p)
+value_in_low (e ∷ es) p a = pick (nat_eq (rank e.parameter) (rank p)) (value_in_low es p a.1)
+  where
+    pick : (b : Bool) → is_low_pair (value_of es p) ≡ true → is_low_pair (cond b e.value (value_of es p)) ≡ true
+    pick true h = a.0
+    pick false h = h
+
+low_by : (v : ℕ × ℕ) → is_low_pair v ≡ true → (v.0 ≤ 127) × (v.1 ≤ 127)
+low_by v h =
+    let a = ltb-true v.0 128 (left (nat_lt v.0 128) (nat_lt v.1 128) h) in
+    let b = ltb-true v.1 128 (right (nat_lt v.0 128) (nat_lt v.1 128) h) in
+    (omega (arith, a), omega (arith, b))
+
+-- the value of a parameter
+pub value_low : (fixed : List (ℕ × ℕ)) (es : List Entry) (p : Parameter) → are_low_pairs fixed ≡ true → are_others es ≡ true
+    → ((value_of (params_of fixed es) p).0 ≤ 127) × ((value_of (params_of fixed es) p).1 ≤ 127)
+value_low fixed es p f o = low_by (value_of (params_of fixed es) p) (value_in_low (params_of fixed es) p (params_low fixed es f o))

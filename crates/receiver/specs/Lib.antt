@@ -1,0 +1,4 @@
+pub mod Params
+pub mod Kept
+pub mod Roles
+pub mod State
