@@ -1,7 +1,8 @@
 -- What the dump route gives can be written as a file, and its bytes spell it.
-use Rattle.std.proofs.Common.{◌≡◌, ℕ, suc, ◌+◌, ◌^◌, ◌<◌, ◌≤◌, List, [], ◌∷◌, length, map, filter, get_or, Bool, true, false, Option, refl, sym, subst, ap, ◌∙◌, inl, inr, arith, lit<, lit≤}
+use Rattle.std.proofs.Common.{◌≡◌, ℕ, ◌+◌, ◌*◌, ◌^◌, ◌<◌, ◌≤◌, List, [], ◌∷◌, ◌++◌, length, map, filter, Bool, Option, refl, sym, subst, ◌∙◌, inl, inr, arith, lit≤}
 use Rattle.std.specs.Prelude.{All, ◌&&◌, nat_eq}
 use Rattle.std.specs.List.{AllByRecursion}
+use Rattle.std.specs.Int.{w16, from_be_bytes}
 use Rattle.std.proofs.lemmas.Bool.{cases_Bool}
 use Rattle.std.proofs.lemmas.List.{get_or-map, length-map}
 use Rattle.std.proofs.lemmas.List.Elements.{All-from_get_or}
@@ -82,6 +83,34 @@ dumped_short bytes source dump is few len =
     short_tracks (distributed (length source.tracks) (dumped dump_options dump (merged source)))
     (subst (λ es. All (λ (w : Written). length w.bytes < 2 ^ 32) (map written (distributed (length source.tracks) es))) (written_is_dump_output s (merged source))
     (short bytes source s is few (short_dump dump (merged source) len)))
+
+-- ---- the division
+
+all_front : (xs ys : List ℕ) → AllByRecursion (λ (b : ℕ). b < 256) (xs ++ ys) → AllByRecursion (λ (b : ℕ). b < 256) xs
+all_front [] ys h = tt
+all_front (x ∷ xs) ys h = (h.0, all_front xs ys h.1)
+
+all_back : (xs ys : List ℕ) → AllByRecursion (λ (b : ℕ). b < 256) (xs ++ ys) → AllByRecursion (λ (b : ℕ). b < 256) ys
+all_back [] ys h = h
+all_back (x ∷ xs) ys h = all_back xs ys h.1
+
+two_bytes : (bs : List ℕ) (n : ℕ) → length bs ≡ 2 → from_be_bytes w16 bs ≡ n → AllByRecursion (λ (b : ℕ). b < 256) bs → n < 2 ^ 16
+two_bytes [] n len value h = absurd (omega (arith, len))
+two_bytes (a ∷ []) n len value h = absurd (omega (arith, len))
+two_bytes (a ∷ b ∷ []) n len value h = let is : a * 256 + b ≡ n = value in omega (arith, is, h.0, h.1.0)
+two_bytes (a ∷ b ∷ c ∷ bs) n len value h = absurd (omega (arith, len))
+
+-- The division that bytes spell is a number of two bytes.
+pub division_below : (bytes : List ℕ) (source : MidiFile) → Spells bytes source → AllByRecursion (λ (b : ℕ). b < 256) bytes → source.division < 2 ^ 16
+division_below bytes source is h =
+    let front = is.is_header in
+    let fields = is.are_fields in
+    let header = all_front is.header (is.tracks ++ is.more) (subst (AllByRecursion (λ (b : ℕ). b < 256)) is.parts h) in
+    let behind_type = all_back front.type_bytes (front.size_bytes ++ is.fields) (subst (AllByRecursion (λ (b : ℕ). b < 256)) front.parts header) in
+    let content = subst (AllByRecursion (λ (b : ℕ). b < 256)) fields.parts (all_back front.size_bytes is.fields behind_type) in
+    let behind_format = all_back fields.format_bytes (fields.tracks_bytes ++ (fields.division_bytes ++ fields.more)) content in
+    let behind_tracks = all_back fields.tracks_bytes (fields.division_bytes ++ fields.more) behind_format in
+    two_bytes fields.division_bytes source.division fields.is_division.len fields.is_division.value (all_front fields.division_bytes fields.more behind_tracks)
 
 -- ---- the file
 
