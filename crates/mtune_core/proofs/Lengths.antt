@@ -123,11 +123,11 @@ short bytes file s is few h = all_short 0 (length file.tracks) (written_from s f
 
 -- ---- the program's setup
 
-one_if : (b : Bool) (bytes : List ℕ) → length (dump_if b bytes) ≤ 1
+pub one_if : (b : Bool) (bytes : List ℕ) → length (dump_if b bytes) ≤ 1
 one_if true bytes = omega arith
 one_if false bytes = omega arith
 
-each_if : (b : Bool) (bytes : List ℕ) → length bytes ≤ 407 → AllByRecursion (λ x. length x ≤ 407) (dump_if b bytes)
+pub each_if : (b : Bool) (bytes : List ℕ) → length bytes ≤ 407 → AllByRecursion (λ x. length x ≤ 407) (dump_if b bytes)
 each_if true bytes h = (h, tt)
 each_if false bytes h = tt
 
