@@ -6,3 +6,4 @@ pub mod SurveyFacts
 pub mod Made
 pub mod Faultless
 pub mod Fits
+pub mod PlaysSame
