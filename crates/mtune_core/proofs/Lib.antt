@@ -7,3 +7,4 @@ pub mod Made
 pub mod Faultless
 pub mod Fits
 pub mod Writable
+pub mod PlaysSame

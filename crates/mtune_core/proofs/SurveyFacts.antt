@@ -39,11 +39,11 @@ any_set (b ∷ bs) zero low = refl
 any_set (b ∷ bs) (suc i) low = or_right b (any_of (set bs i true)) (any_set bs i (omega (arith, low)))
 
 -- ---- the note on of an event
-abbrev IsLow : Option (ℕ × ℕ) → Type 0
+abbrev pub IsLow : Option (ℕ × ℕ) → Type 0
 IsLow None = Unit {0}
 IsLow (Some x) = (x.0 < 16) × (x.1 < 128)
 
-low_note : (w : MidiWhat) → IsValidWhat w → IsLow (note_on w)
+pub low_note : (w : MidiWhat) → IsValidWhat w → IsLow (note_on w)
 low_note (Says (NoteOn c k zero)) h = tt
 low_note (Says (NoteOn c k (suc v))) h = pick (is_retuned c)
   where
