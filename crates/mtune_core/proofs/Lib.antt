@@ -8,3 +8,5 @@ pub mod Faultless
 pub mod Fits
 pub mod Writable
 pub mod PlaysSame
+pub mod Retuned
+pub mod Ended

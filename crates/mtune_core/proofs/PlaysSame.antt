@@ -63,7 +63,7 @@ pub values_fit : (table : Targets) → AllByRecursion IsTuningValue (values_from
 values_fit table = each_value table 0 128
 
 -- ---- the dump of the table's targets
-dump_length : (targets : List (Option ℕ)) → length targets ≡ 128 → length (dump_bytes 0 targets) ≡ 407
+pub dump_length : (targets : List (Option ℕ)) → length targets ≡ 128 → length (dump_bytes 0 targets) ≡ 407
 dump_length targets all =
     let body = dump_body 0 targets in
     let values : length (flat_map value_bytes targets) ≡ 3 * length targets = values_length targets in

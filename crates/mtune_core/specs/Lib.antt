@@ -7,3 +7,4 @@ pub mod Chosen
 pub mod Putting
 pub mod Answers
 pub mod Causes
+pub mod Call

@@ -19,6 +19,7 @@ pub const TEXT_LIMIT: u32 = 262_144;
 pub const INPUT_LIMIT: u32 = 4_194_304;
 
 /// The content at a name, of at most `limit` bytes.
+#[tactic(auto, using(crate::proofs::Ended::says_stay))]
 pub fn load<F: Files>(
     alloc: Global,
     files: &mut F,
@@ -30,6 +31,7 @@ pub fn load<F: Files>(
     ensures short { IfOk result (λ v. length v.items ≤ limit) }
     ensures cause { IfErr result (λ e. LoadCause (F.steady files.old) (F.held files.old) (F.faults files.old) (F.faults files.new) which name.now limit e) }
     ensures counts { OnOk result (F.faults files.new ≡ F.faults files.old) }
+    ensures says { (F.faults files.new).says ≡ (F.faults files.old).says }
     ensures held { F.held files.new ≡ F.held files.old }
     ensures said { F.said files.new ≡ F.said files.old }
     ensures steady { F.steady files.new ≡ F.steady files.old }

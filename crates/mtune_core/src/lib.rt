@@ -1,6 +1,7 @@
 //! The command: what its words ask for, done over any `Files`.
 #![tactic(auto)]
 
+mod call;
 mod contents;
 mod dump;
 mod laws;
@@ -13,4 +14,5 @@ mod survey;
 mod targets;
 mod words;
 
+pub use call::run;
 pub use outcome::{Fault, Outcome};

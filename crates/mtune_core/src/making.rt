@@ -59,7 +59,7 @@ fn accept(smf: &Smf<'_>, targets: &Targets) -> Result<Survey, Fault>
     ensures found { IfOk result (λ f. f ≡ survey_of (merged (view_file smf.now))) }
     ensures taken { IfOk result (λ f. f.taken ≡ true) }
     ensures played { IfOk result (λ f. ArePlayed targets.now f.keys) }
-    ensures playable { IfOk result (λ f. IsPlayable (length (view_file smf.now).tracks) (merged (view_file smf.now))) }
+    ensures playable { IsPlayable (length (view_file smf.now).tracks) (merged (view_file smf.now)) }
     ensures refused { IfErr result (λ e. IsRefusal targets.now (survey_of (merged (view_file smf.now))) e) }
 {
     let found = look_through(&mut Merge::new(smf));

@@ -16,6 +16,7 @@ fn load_table<F: Files>(alloc: Global, files: &mut F, name: &str) -> Result<KeyT
     ensures table { IfOk result (λ t. TableFrom (F.held files.old) name.now (table_fn t)) }
     ensures cause { IfErr result (λ e. TableCause (F.steady files.old) (F.held files.old) (F.faults files.old) (F.faults files.new) name.now e) }
     ensures counts { OnOk result (F.faults files.new ≡ F.faults files.old) }
+    ensures says { (F.faults files.new).says ≡ (F.faults files.old).says }
     ensures held { F.held files.new ≡ F.held files.old }
     ensures said { F.said files.new ≡ F.said files.old }
     ensures steady { F.steady files.new ≡ F.steady files.old }
@@ -38,6 +39,8 @@ fn load_input<F: Files>(
 ) -> Result<Made, Fault>
     ensures made { IfOk result (λ made. MadeFrom (F.held files.old) name.now (table_fn table.now) made.output.items made.report.items) }
     ensures cause { IfErr result (λ e. FromCause (F.steady files.old) (F.held files.old) (F.faults files.old) (F.faults files.new) name.now (table_fn table.now) e) }
+    ensures counts { OnOk result (F.faults files.new ≡ F.faults files.old) }
+    ensures says { (F.faults files.new).says ≡ (F.faults files.old).says }
     ensures held { F.held files.new ≡ F.held files.old }
     ensures said { F.said files.new ≡ F.said files.old }
     ensures steady { F.steady files.new ≡ F.steady files.old }
@@ -52,6 +55,8 @@ fn load_input<F: Files>(
 pub fn prepare<F: Files>(alloc: Global, command: &Command<'_>, files: &mut F) -> Result<Made, Fault>
     ensures made { IfOk result (λ made. IsPrepared (F.held files.old) (view_command command.now) made.output.items made.report.items) }
     ensures cause { IfErr result (λ e. CommandCause (F.steady files.old) (F.held files.old) (F.faults files.old) (F.faults files.new) (view_command command.now) e) }
+    ensures counts { OnOk result (F.faults files.new ≡ F.faults files.old) }
+    ensures says { (F.faults files.new).says ≡ (F.faults files.old).says }
     ensures held { F.held files.new ≡ F.held files.old }
     ensures said { F.said files.new ≡ F.said files.old }
     ensures steady { F.steady files.new ≡ F.steady files.old }

@@ -1,0 +1,23 @@
+use Rattle.std.proofs.Common.{ap, sym, subst}
+use Rattle.mtune_core.specs.Call.{IsRefused}
+use Rattle.mtune_core.specs.Command.{texts}
+use Rattle.mtune_core.proofs.Ended.{refused_stays, clash}
+use Rattle.mtune_core.proofs.call.run.Goals as goal
+use Rattle.mtune_core.proofs.call.run.Goals.{then-not-matches, else-not-matches, in-Say, in_default}
+
+pub returns-after-not-matches-clause-refused : goal.returns-after-not-matches-clause-refused
+returns-after-not-matches-clause-refused g c = elim c.if-not-matches.branch [
+  | then-not-matches w ↦ elim c.match-matches.branch [
+    | in-Say v ↦ absurd (clash c.match-matches.matches v.matches-is w.if-not-matches.true)
+    | in_default v ↦ subst
+        (λ f. IsRefused (g.F.Files.steady c.args.files.now) (g.F.Files.held c.args.files.now) (g.F.Files.held f) (g.F.Files.said c.args.files.now) (g.F.Files.said f) (g.F.Files.faults c.args.files.now) (g.F.Files.faults f) (texts c.args.words.now) c.in-Err.fault)
+        (sym w.files-is)
+        (refused_stays (g.F.Files.steady c.args.files.now) (g.F.Files.held c.args.files.now) (g.F.Files.held c.perform.new.files) (g.F.Files.held w.tell.new.files)
+        (g.F.Files.said c.args.files.now) (g.F.Files.said c.perform.new.files) (g.F.Files.said w.tell.new.files)
+        (g.F.Files.faults c.args.files.now) (g.F.Files.faults c.perform.new.files) (g.F.Files.faults w.tell.new.files)
+        (texts c.args.words.now) c.in-Err.fault v.in_default.not-Say c.in-Err.ensures.refused w.tell.ensures.held w.tell.ensures.counts)
+  ]
+  | else-not-matches w ↦ subst
+      (λ f. IsRefused (g.F.Files.steady c.args.files.now) (g.F.Files.held c.args.files.now) (g.F.Files.held f) (g.F.Files.said c.args.files.now) (g.F.Files.said f) (g.F.Files.faults c.args.files.now) (g.F.Files.faults f) (texts c.args.words.now) c.in-Err.fault)
+      (sym w.files-is) c.in-Err.ensures.refused
+]
