@@ -4,10 +4,9 @@ use Rattle.std.specs.Prelude.{All, Contains, IfSome, IfNone}
 use Rattle.std.proofs.lemmas.List.{map-set, get_or-map, get_or-take, length-map, length-take, set-get_or, take_more, take_more_set, take_all}
 use Rattle.mt_base.specs.declared.event.Event.{Event}
 use Rattle.mt_base.specs.Midi.{Timed, MidiEvent, view}
-use Rattle.midi_model.specs.Merged.{AreTracksOf, merged_tracks}
+use Rattle.midi_model.specs.Merged.{AreTracksOf, merged_tracks, timed}
 use Rattle.smf_read.specs.declared.cursor.Cursor.{Cursor}
 use Rattle.smf_read.specs.Remaining.{remaining, all_of}
-use Rattle.event_stream.specs.Distributed.{timed}
 use Rattle.event_stream.specs.Keys.{key_of, keys_of}
 use Rattle.event_stream.specs.Merges.{AreParts, untracked, parts_left, whole_parts, merged_left, IsMerge}
 use Rattle.event_stream.proofs.Parts.{take_set, parts_without, length_keys, key_at, keys_set, Found, found, takes_found, none_found, placed_from, length_placed, untracked_placed, parts_of_tracks}

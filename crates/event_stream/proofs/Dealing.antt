@@ -5,9 +5,9 @@ use Rattle.std.proofs.lemmas.Bool.{cases_Bool, eqb-true, eq-eqb, ne_eqb}
 use Rattle.std.proofs.lemmas.List.{append-nil, map-append, ext_get_or}
 use Rattle.std.proofs.lemmas.List.Elements.{filter-append}
 use Rattle.mt_base.specs.Midi.{Timed, MidiEvent, placed}
-use Rattle.midi_model.specs.Merged.{merged_tracks, InOrder, of_track}
+use Rattle.midi_model.specs.Merged.{merged_tracks, InOrder, of_track, timed}
 use Rattle.midi_model.proofs.Merging.{Before, before, each_weaker, each_cond, of_track_merged}
-use Rattle.event_stream.specs.Distributed.{timed, events_in, distributed_from, distributed}
+use Rattle.event_stream.specs.Distributed.{events_in, distributed_from, distributed}
 use Rattle.event_stream.specs.Keys.{AreInOrder}
 use Rattle.event_stream.proofs.Taking.{ComesBefore, IsFirst, takes, merged_empty}
 

@@ -6,9 +6,8 @@ use Rattle.std.proofs.lemmas.List.{map-set, get_or-map, length-map}
 use Rattle.std.proofs.lemmas.List.Elements.{recursion_from_All}
 use Rattle.mt_base.specs.Midi.{Timed, MidiEvent, placed}
 use Rattle.mt_base.specs.Valid.{IsValidEvent}
-use Rattle.midi_model.specs.Merged.{InOrder, AreTracksOf, merged_tracks, first_tick}
+use Rattle.midi_model.specs.Merged.{InOrder, AreTracksOf, merged_tracks, first_tick, timed}
 use Rattle.midi_model.proofs.Merging.{each_weaker}
-use Rattle.event_stream.specs.Distributed.{timed}
 use Rattle.event_stream.specs.Keys.{key_of, keys_of, AreInOrder}
 use Rattle.event_stream.specs.Merges.{IsPart, AreParts, untracked}
 use Rattle.event_stream.proofs.Taking.{takes, first_by_key, merged_empty}

@@ -7,11 +7,11 @@ use Rattle.std.proofs.lemmas.List.{map-set, get_or-map, length-map}
 use Rattle.std.proofs.lemmas.List.Elements.{All-from_get_or, filter-append}
 use Rattle.mt_base.specs.Midi.{MidiEvent, is_end}
 use Rattle.mt_base.specs.Valid.{IsValidEvent}
-use Rattle.midi_model.specs.Merged.{precedes, InOrder, EndsOnce, of_track, IsPlayable}
+use Rattle.midi_model.specs.Merged.{precedes, InOrder, EndsOnce, of_track, IsPlayable, timed}
 use Rattle.midi_model.specs.Writing.{Written, written, with_event, last_tick, is_ended}
 use Rattle.midi_model.proofs.Merging.{before}
 use Rattle.midi_model.proofs.Writes.{written-append}
-use Rattle.event_stream.specs.Distributed.{timed, events_in, distributed_from, distributed, MayPut, all_bytes}
+use Rattle.event_stream.specs.Distributed.{events_in, distributed_from, distributed, MayPut, all_bytes}
 use Rattle.event_stream.proofs.Taking.{no_earlier}
 use Rattle.event_stream.proofs.Dealing.{length_dealt, get_dealt, with_last, each_picked}
 

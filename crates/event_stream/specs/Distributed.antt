@@ -2,12 +2,8 @@
 use Rattle.std.specs.Prelude.{◌≡◌, ◌<◌, ◌≤◌, ◌+◌, ℕ, zero, suc, List, [], ◌∷◌, map, length, get_or, false}
 use Rattle.mt_base.specs.Midi.{Timed, MidiEvent}
 use Rattle.mt_base.specs.Valid.{IsValidEvent}
-use Rattle.midi_model.specs.Merged.{of_track}
+use Rattle.midi_model.specs.Merged.{of_track, timed}
 use Rattle.midi_model.specs.Writing.{Written, written}
-
--- an event without its track
-abbrev pub timed : MidiEvent → Timed
-timed e = record { tick = e.tick; what = e.what }
 
 -- the events of one track, in the order of the list
 abbrev pub events_in : ℕ → List MidiEvent → List Timed

@@ -2,10 +2,9 @@
 use Rattle.std.specs.Prelude.{◌≡◌, ◌<◌, ◌≤◌, ◌^◌, ℕ, suc, List, [], ◌∷◌, map, take, length, All, Contains}
 use Rattle.std.specs.List.{AllByRecursion}
 use Rattle.mt_base.specs.Midi.{Timed, MidiEvent}
-use Rattle.midi_model.specs.Merged.{InOrder, merged_tracks}
+use Rattle.midi_model.specs.Merged.{InOrder, merged_tracks, timed}
 use Rattle.smf_read.specs.declared.cursor.Cursor.{Cursor}
 use Rattle.smf_read.specs.Remaining.{remaining, all_of}
-use Rattle.event_stream.specs.Distributed.{timed}
 use Rattle.event_stream.specs.Keys.{keys_of}
 
 -- a part of a track, with its number

@@ -1,9 +1,8 @@
 ghost use Rattle.std.specs.Prelude.{◌≡◌, ◌<◌, ◌≤◌, ◌+◌, ◌*◌, ◌%◌, ◌≢◌, ℕ, List, [], ◌∷◌, map, slice_set, get_or, take, length, IfSome, IfNone};
 ghost use Rattle.mt_base.specs.Midi.{MidiEvent, view};
-ghost use Rattle.midi_model.specs.Merged.{merged, IsPlayable};
+ghost use Rattle.midi_model.specs.Merged.{merged, IsPlayable, timed};
 ghost use Rattle.smf_read.specs.Files.{view_file};
 ghost use Rattle.smf_read.specs.Remaining.{remaining, all_of};
-ghost use Rattle.event_stream.specs.Distributed.{timed};
 ghost use Rattle.event_stream.specs.Keys.{key_of, keys_of};
 ghost use Rattle.event_stream.specs.Merges.{untracked, parts_left, merged_left, merged_whole, IsMerge};
 

@@ -1,9 +1,9 @@
 ghost use Rattle.std.specs.Prelude.{◌≡◌, ◌<◌, ◌≤◌, ◌+◌, ℕ, List, [], ◌∷◌, ◌++◌, map, get_or, slice_set, length, true, false, All, IfOk, OnOk, OnErr};
 ghost use Rattle.mt_base.specs.Midi.{MidiEvent, view};
 ghost use Rattle.mt_base.specs.Valid.{IsValidEvent};
-ghost use Rattle.midi_model.specs.Merged.{merged_tracks, IsPlayable};
+ghost use Rattle.midi_model.specs.Merged.{merged_tracks, IsPlayable, timed};
 ghost use Rattle.midi_model.specs.Writing.{Written, written, with_event, most_bytes};
-ghost use Rattle.event_stream.specs.Distributed.{timed, distributed, all_bytes};
+ghost use Rattle.event_stream.specs.Distributed.{distributed, all_bytes};
 
 use mt_base::{Event, Memory};
 use smf_write::TrackText;

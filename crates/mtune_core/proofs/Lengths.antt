@@ -9,11 +9,11 @@ use Rattle.mt_base.specs.Midi.{Timed, MidiEvent}
 use Rattle.midi_model.specs.FileText.{MidiFile}
 use Rattle.midi_model.specs.Spelling.{Spells}
 use Rattle.midi_model.specs.Writing.{Written, written, most_bytes}
-use Rattle.midi_model.specs.Merged.{of_track, merged}
+use Rattle.midi_model.specs.Merged.{of_track, merged, timed}
 use Rattle.midi_model.proofs.Merging.{of_track_merged, track_in_place}
 use Rattle.midi_model.proofs.Playing.{spelled_tracks}
 use Rattle.midi_model.proofs.Sizes.{most, track_most, spelled_most, spelled_count}
-use Rattle.event_stream.specs.Distributed.{timed, events_in, distributed_from, distributed}
+use Rattle.event_stream.specs.Distributed.{events_in, distributed_from, distributed}
 use Rattle.event_stream.proofs.Dealing.{timed_placed}
 use Rattle.retune_model.specs.Blocks.{all_events}
 use Rattle.retune_model.specs.Dump.{dump_if}

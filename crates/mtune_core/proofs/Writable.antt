@@ -9,13 +9,13 @@ use Rattle.std.proofs.lemmas.List.Elements.{All-from_get_or}
 use Rattle.mt_base.specs.Midi.{Timed, MidiEvent}
 use Rattle.mt_base.specs.Valid.{IsValidEvent}
 use Rattle.midi_model.specs.FileText.{MidiFile}
-use Rattle.midi_model.specs.Merged.{InOrder, EndsOnce, of_track, IsPlayable, merged}
+use Rattle.midi_model.specs.Merged.{InOrder, EndsOnce, of_track, IsPlayable, merged, timed}
 use Rattle.midi_model.specs.Spelling.{Spells}
 use Rattle.midi_model.specs.TuningBytes.{dump_bytes}
 use Rattle.midi_model.specs.Writing.{Written, written, track_bytes, file_bytes, IsWritable, IsWritableFile}
 use Rattle.midi_model.proofs.Merging.{before, each_weaker}
 use Rattle.midi_model.proofs.Spelt.{spelt_file}
-use Rattle.event_stream.specs.Distributed.{timed, events_in, distributed}
+use Rattle.event_stream.specs.Distributed.{events_in, distributed}
 use Rattle.event_stream.proofs.Taking.{no_earlier}
 use Rattle.event_stream.proofs.Dealing.{each_picked, length_dealt, get_dealt}
 use Rattle.retune_model.specs.Dump.{from_up, has_note_on, dump_setup, dumped}

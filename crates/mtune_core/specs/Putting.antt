@@ -5,7 +5,8 @@ use Rattle.mt_base.specs.Midi.{MidiWhat, MidiEvent, Says, SysexOf}
 use Rattle.midi_model.specs.Sysex.{is_reset}
 use Rattle.midi_model.specs.TuningBytes.{select_of}
 use Rattle.midi_model.specs.Writing.{Written, written, with_event}
-use Rattle.event_stream.specs.Distributed.{timed, MayPut}
+use Rattle.midi_model.specs.Merged.{timed}
+use Rattle.event_stream.specs.Distributed.{MayPut}
 use Rattle.retune_model.specs.Blocks.{all_events}
 use Rattle.retune_model.specs.Dump.{dump_if}
 use Rattle.retune_model.specs.Routes.{sends, selects}

@@ -4,7 +4,6 @@
 mod call;
 mod contents;
 mod dump;
-mod laws;
 mod lines;
 mod making;
 mod outcome;
