@@ -1,9 +1,9 @@
 -- The state of one channel, and what a channel message does to it (MIDI 1.0 Detailed Specification; the defaults, and what
 -- the standard leaves open, are this project's profile).
-use Rattle.std.specs.Prelude.{ℕ, suc, List, [], Bool, true, false, ◌&&◌, ◌||◌, nat_eq, nat_le, if◌then◌else◌, get_or, set, replicate}
+use Rattle.std.specs.Prelude.{ℕ, suc, List, [], Bool, true, false, ◌&&◌, ◌||◌, nat_eq, nat_le, if◌then◌else◌, get_or, set, replicate, length, filter}
 use Rattle.mt_base.specs.declared.event.Msg.{Msg}
 use Rattle.mt_base.specs.declared.event.Msg.TheVariants.{NoteOn, KeyPressure, Control, Program, Pressure, Bend}
-use Rattle.midi_model.specs.Params.{Parameter, Entry, pair_eq, value_of, put}
+use Rattle.midi_model.specs.Params.{Parameter, Entry, counts, pair_eq, value_of, put}
 
 -- the sound that a program message chose: both bytes of the bank, and the program
 pub record Voice : Type 0 where
@@ -68,6 +68,10 @@ default_channel = record {
   bend = 8192;
   pressure = 0;
 }
+
+-- how many parameters count for the limit
+abbrev pub counted : Channel → ℕ
+counted s = length (filter counts s.params)
 
 abbrev pub role : ℕ → Role
 role n = if nat_eq n 6 then EntryHigh

@@ -1,10 +1,10 @@
 -- The four parameters that are kept apart, among all parameters.
 use Rattle.std.proofs.Common.{◌≡◌, ◌≢◌, ℕ, zero, suc, ◌<◌, ◌≤◌, List, [], ◌∷◌, true, false, ◌||◌, nat_eq, nat_lt, length, filter, get_or, set, refl, ap, sym, ◌∙◌, arith, inl, inr}
 use Rattle.std.proofs.lemmas.Bool.{eqb-true, lt-ltb, ne_eqb}
-use Rattle.midi_model.specs.Params.{Parameter, Entry, rank, value_of, put, rpn}
+use Rattle.midi_model.specs.Params.{Parameter, Entry, rank, value_of, put, rpn, counts}
 use Rattle.midi_model.proofs.Parameters.{either, value_of-put_other}
 use Rattle.midi_model.proofs.Equal.{IsSmall}
-use Rattle.receiver.specs.Kept.{counts, is_canonical, is_other, are_others, is_apart}
+use Rattle.receiver.specs.Kept.{is_canonical, is_other, are_others, is_apart}
 use Rattle.receiver.specs.State.{params_of}
 use Rattle.receiver.proofs.Tidy.{Tidy, tidy_put, commute, twice, value_here, not_counted, all_counted, canonical_from, small_from, both, others_put}
 

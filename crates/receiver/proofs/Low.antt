@@ -2,8 +2,8 @@
 use Rattle.std.proofs.Common.{◌≡◌, ℕ, zero, suc, ◌≤◌, List, [], ◌∷◌, Bool, true, false, cond, ◌&&◌, nat_eq, nat_lt, get_or, set, refl, arith}
 use Rattle.std.specs.List.{AllByRecursion}
 use Rattle.std.proofs.lemmas.Bool.{ltb-true, lt-ltb}
-use Rattle.midi_model.specs.Params.{Parameter, Entry, rank, value_of, put, rpn}
-use Rattle.receiver.specs.Kept.{counts, is_low_value, is_other, are_others, are_low, are_low_pairs}
+use Rattle.midi_model.specs.Params.{Parameter, Entry, rank, value_of, put, rpn, counts}
+use Rattle.receiver.specs.Kept.{is_low_value, is_other, are_others, are_low, are_low_pairs}
 use Rattle.receiver.specs.State.{params_of}
 use Rattle.receiver.proofs.Tidy.{left, right, both, each_put}
 

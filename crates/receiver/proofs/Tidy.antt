@@ -2,10 +2,10 @@
 use Rattle.std.proofs.Common.{◌≡◌, ◌≢◌, ℕ, ◌<◌, List, [], ◌∷◌, Bool, true, false, cond, not, ◌&&◌, ◌||◌, nat_eq, nat_lt, filter, refl, ap, sym, ◌∙◌, ◌⊎◌, inl, inr, arith, subst}
 use Rattle.std.specs.List.{AllByRecursion}
 use Rattle.std.proofs.lemmas.Bool.{cases_lt, ltb-true, lt-ltb, eqb-true, eqb-false}
-use Rattle.midi_model.specs.Params.{Parameter, Entry, rank, pair_eq, default_value, value_of, with_front, put, IsAbove, IsCanonical}
+use Rattle.midi_model.specs.Params.{Parameter, Entry, rank, pair_eq, default_value, value_of, with_front, put, IsAbove, IsCanonical, counts}
 use Rattle.midi_model.proofs.Parameters.{either, standard_by, value_of-put_same, value_of-put_other, canonical_put}
 use Rattle.midi_model.proofs.Equal.{IsSmall, AreSmall, canonical_equal}
-use Rattle.receiver.specs.Kept.{counts, is_above, is_canonical, is_low_value, is_other, are_others}
+use Rattle.receiver.specs.Kept.{is_above, is_canonical, is_low_value, is_other, are_others}
 use Rattle.receiver.proofs.Putting.{put_under, put_on, put_over}
 
 pub left : (x y : Bool) → (x && y) ≡ true → x ≡ true

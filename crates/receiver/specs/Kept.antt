@@ -1,10 +1,6 @@
 -- What the list of parameters that count for the limit of 16 keeps: the order of ranks, no default, and bytes of seven bits.
 use Rattle.std.specs.Prelude.{ℕ, List, [], ◌∷◌, Bool, true, not, ◌&&◌, ◌||◌, nat_eq, nat_lt}
-use Rattle.midi_model.specs.Params.{Entry, rank, pair_eq, default_value}
-
--- the parameters that count: all but RPN 0, 1, 2, 3, 5 and 6
-abbrev pub counts : Entry → Bool
-counts e = let r = rank e.parameter in nat_lt 6 r || nat_eq r 4
+use Rattle.midi_model.specs.Params.{Entry, counts, rank, pair_eq, default_value}
 
 abbrev pub is_above : ℕ → List Entry → Bool
 is_above n [] = true

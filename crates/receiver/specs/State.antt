@@ -5,7 +5,6 @@ use Rattle.mt_base.specs.declared.event.Msg.TheVariants.{Control}
 use Rattle.midi_model.specs.Params.{Entry, rpn, put}
 use Rattle.midi_model.specs.Channel.{Channel, Role, EntryHigh, role, Target, TuningProgram, target}
 use Rattle.receiver.specs.Params.{entries_of}
-use Rattle.receiver.specs.Kept.{counts}
 use Rattle.receiver.specs.declared.state.ChannelState.{ChannelState}
 
 -- the parameters with the four fixed ones among them: RPN 0, 1, 2 and 5
@@ -22,10 +21,6 @@ own_of s = record {
   bend = s.bend;
   pressure = s.pressure;
 }
-
--- how many parameters count for the limit of 16
-abbrev pub counted : Channel → ℕ
-counted s = length (filter counts s.params)
 
 -- the tuning program that a channel has selected after a message to it (MIDI Tuning Standard)
 abbrev pub program_chosen : ℕ → Target → Option ℕ → Option ℕ

@@ -63,10 +63,10 @@ const CONTROLS: [u8; 120] = [
 impl ChannelState {
     ghost use Rattle.mt_base.specs.Valid.{IsValidMsg};
     ghost use Rattle.midi_model.specs.Params.{rank, put, value_of};
-    ghost use Rattle.midi_model.specs.Channel.{default_channel, apply, role, target, with_high, with_low, controlled, ResetControllers};
+    ghost use Rattle.midi_model.specs.Channel.{default_channel, counted, apply, role, target, with_high, with_low, controlled, ResetControllers};
     ghost use Rattle.receiver.specs.Params.{numbered, parameter_of};
     ghost use Rattle.receiver.specs.Roles.{target_of, HasValue};
-    ghost use Rattle.receiver.specs.State.{own_of, params_of, counted, program_after, program_by, program_chosen};
+    ghost use Rattle.receiver.specs.State.{own_of, params_of, program_after, program_by, program_chosen};
 
     /// A channel as it is at the start.
     pub fn new() -> ChannelState

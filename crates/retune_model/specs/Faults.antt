@@ -5,7 +5,7 @@ use Rattle.mt_base.specs.declared.event.Msg.TheVariants.{NoteOn, KeyPressure, Co
 use Rattle.mt_base.specs.Midi.{MidiWhat, Says, SysexOf, MetaOf, MidiEvent, channel_of}
 use Rattle.midi_model.specs.Sysex.{is_tuning}
 use Rattle.midi_model.specs.Params.{Entry, pair_eq, rank}
-use Rattle.midi_model.specs.Channel.{Channel, Selection, Role, EntryHigh, EntryLow, role}
+use Rattle.midi_model.specs.Channel.{Channel, counted, Selection, Role, EntryHigh, EntryLow, role}
 use Rattle.midi_model.specs.Notes.{Note, sounds}
 use Rattle.midi_model.specs.Music.{Music, channel_at, step}
 use Rattle.retune_model.specs.Table.{Bounds, BendTarget, bend_target, tuning_target}
@@ -125,13 +125,6 @@ is_tuning_entry o m _ = false
 abbrev pub is_zone_entry : Options → Music → Msg → Bool
 is_zone_entry o m (Control c n v) = is_part o c && (is_entry (role n) && is_selected 6 (channel_at m c).selection)
 is_zone_entry o m _ = false
-
--- the parameters that count for the limit of 16: all but RPN 0, 1, 2, 3, 5 and 6
-abbrev pub counts : Entry → Bool
-counts e = let r = rank e.parameter in nat_lt 6 r || nat_eq r 4
-
-abbrev pub counted : Channel → ℕ
-counted s = length (filter counts s.params)
 
 abbrev pub is_poly : Options → Msg → Bool
 is_poly o (KeyPressure c k v) = is_mpe o.route && is_part o c
