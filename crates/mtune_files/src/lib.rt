@@ -8,3 +8,6 @@ mod which;
 pub use files::{Files, LoadFault, SayFailed, StoreFailed};
 pub use mem::MemFiles;
 pub use which::Which;
+
+#[cfg(test)]
+mod tests;

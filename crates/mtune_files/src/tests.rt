@@ -1,0 +1,78 @@
+use super::*;
+use std::test::Fail;
+
+fn counts(files: &MemFiles) -> [u64; 5] {
+    [
+        files.count(0),
+        files.count(1),
+        files.count(2),
+        files.count(3),
+        files.count(4),
+    ]
+}
+
+#[test]
+fn holds_what_was_added(rt: HostRuntime) -> Result<(), Fail> {
+    let alloc = rt.alloc();
+    let mut files = MemFiles::new(alloc);
+    files.add("a.scl", b"one")?;
+    files.add("b.mid", b"four")?;
+    files.add("a.scl", b"two")?;
+    assert!(rt; files.content("a.scl") == Some(b"two"));
+    assert!(rt; files.content("b.mid") == Some(b"four"));
+    assert!(rt; files.content("a").is_none());
+    assert!(rt; files.text().is_empty());
+    assert_eq!(rt; counts(&files), [0, 0, 0, 0, 0]);
+    Ok(())
+}
+
+#[test]
+fn loads_up_to_the_limit(rt: HostRuntime) -> Result<(), Fail> {
+    let alloc = rt.alloc();
+    let mut files = MemFiles::new(alloc);
+    files.add("b.mid", b"four")?;
+    match files.load(alloc, Which::Input, "b.mid", 4) {
+        Ok(content) => assert!(rt; content.as_slice() == b"four".as_slice()),
+        Err(_) => assert!(rt; false),
+    }
+    let long = files.load(alloc, Which::Input, "b.mid", 3);
+    assert!(rt; matches!(long, Err(LoadFault::TooLong)));
+    assert_eq!(rt; counts(&files), [0, 0, 0, 0, 0]);
+    let missing = files.load(alloc, Which::Map, "c.kbm", 4);
+    assert!(rt; matches!(missing, Err(LoadFault::Failed)));
+    assert_eq!(rt; counts(&files), [0, 1, 0, 0, 0]);
+    Ok(())
+}
+
+#[test]
+fn stores_and_says(rt: HostRuntime) -> Result<(), Fail> {
+    let mut files = MemFiles::new(rt.alloc());
+    files.add("out.mid", b"old")?;
+    assert!(rt; files.store("out.mid", b"newer").is_ok());
+    assert!(rt; files.say(b"notes 1\n").is_ok());
+    assert!(rt; files.say(b"channels 1\n").is_ok());
+    assert!(rt; files.content("out.mid") == Some(b"newer"));
+    assert!(rt; files.text() == b"notes 1\nchannels 1\n".as_slice());
+    assert_eq!(rt; counts(&files), [0, 0, 0, 0, 0]);
+    Ok(())
+}
+
+#[test]
+fn fails_the_calls_that_are_set(rt: HostRuntime) -> Result<(), Fail> {
+    let alloc = rt.alloc();
+    let mut files = MemFiles::new(alloc);
+    files.add("a.scl", b"one")?;
+    files.fail(1)?;
+    files.fail(3)?;
+    files.fail(5)?;
+    let first = files.load(alloc, Which::Scale, "a.scl", 3);
+    assert!(rt; matches!(first, Err(LoadFault::Failed)));
+    assert!(rt; files.load(alloc, Which::Scale, "a.scl", 3).is_ok());
+    assert!(rt; files.store("a.scl", b"two").is_err());
+    assert!(rt; files.say(b"x").is_ok());
+    assert!(rt; files.say(b"y").is_err());
+    assert!(rt; files.content("a.scl") == Some(b"one"));
+    assert!(rt; files.text() == b"x".as_slice());
+    assert_eq!(rt; counts(&files), [1, 0, 0, 1, 1]);
+    Ok(())
+}
