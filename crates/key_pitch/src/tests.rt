@@ -6,6 +6,9 @@ use std::test::Fail;
 
 const JUST: &[u8] = b"just\n12\n16/15\n9/8\n6/5\n5/4\n4/3\n45/32\n3/2\n8/5\n5/3\n9/5\n15/8\n2/1\n";
 
+const MEANTONE: &[u8] =
+    b"quarter-comma meantone, in cents\n12\n76.04900\n193.15686\n310.26471\n386.31371\n503.42157\n579.47057\n696.57843\n772.62743\n889.73529\n1006.84314\n1082.89214\n1200.0\n";
+
 /// The table of a scale text and a mapping text; none where a text isn't read.
 fn table(alloc: Global, scale: &[u8], mapping: &[u8]) -> Option<Result<KeyTable, TuneFault>> {
     if scale.len() > 262_144 || mapping.len() > 262_144 {
@@ -23,6 +26,23 @@ fn told(alloc: Global, scale: &[u8], mapping: &[u8], key: u8) -> Option<(Aim, Ai
     }
     let table = table(alloc, scale, mapping)?.ok()?;
     Some((table.mts_aim(key), table.bend_aim(key, 12)))
+}
+
+/// Whether a tuning message is told these values of these keys.
+fn are_told(alloc: Global, scale: &[u8], mapping: &[u8], wanted: &[(u8, Option<u32>)]) -> bool {
+    let Some(Ok(table)) = table(alloc, scale, mapping) else {
+        return false;
+    };
+    for &(key, value) in wanted {
+        let aim = match value {
+            Some(value) => Aim::Mts { value },
+            None => Aim::OutOfDevice,
+        };
+        if key > 127 || table.mts_aim(key) != aim {
+            return false;
+        }
+    }
+    true
 }
 
 /// Why there is no table.
@@ -66,6 +86,38 @@ fn tells_of_keys(rt: HostRuntime) -> Result<(), Fail> {
     assert!(rt; told(rt.alloc(), octaves, a440, 64) == Some(low));
     assert!(rt; told(rt.alloc(), octaves, a440, 63) == out);
     assert!(rt; told(rt.alloc(), octaves, a440, 74) == out);
+    Ok(())
+}
+
+/// The values that tools/key_targets.py gives; none where a key is out of the device.
+#[test]
+fn tells_the_nearest_steps(rt: HostRuntime) -> Result<(), Fail> {
+    let a440 = b"0\n0\n127\n69\n69\n440.0\n0\n";
+    let meantone = [
+        (0, Some(1682)),
+        (1, Some(14_142)),
+        (2, Some(33_329)),
+        (6, Some(96_622)),
+        (59, Some(965_535)),
+        (60, Some(984_722)),
+        (68, Some(1_111_309)),
+        (69, Some(1_130_496)),
+        (70, Some(1_142_956)),
+        (76, Some(1_244_623)),
+        (81, Some(1_327_104)),
+        (126, Some(2_062_702)),
+        (127, Some(2_081_889)),
+    ];
+    assert!(rt; are_told(rt.alloc(), MEANTONE, a440, &meantone));
+    // a whole tone a key
+    let tones = [
+        (35, None),
+        (36, Some(28_012)),
+        (70, Some(1_163_905)),
+        (97, Some(2_065_937)),
+        (98, None),
+    ];
+    assert!(rt; are_told(rt.alloc(), b"tone\n1\n9/8\n", a440, &tones));
     Ok(())
 }
 
