@@ -16,3 +16,6 @@ mod words;
 
 pub use call::run;
 pub use outcome::{Fault, Outcome};
+
+#[cfg(test)]
+mod tests;
