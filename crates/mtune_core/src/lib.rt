@@ -15,3 +15,6 @@ mod words;
 
 pub use call::run;
 pub use outcome::{Fault, Outcome};
+
+#[cfg(test)]
+mod tests;
