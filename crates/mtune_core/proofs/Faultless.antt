@@ -5,15 +5,15 @@ use Rattle.std.proofs.lemmas.Bool.{not-true, or_parts, or_from, or_left, or_righ
 use Rattle.mt_base.specs.declared.event.Msg.{Msg}
 use Rattle.mt_base.specs.declared.event.Msg.TheVariants.{NoteOn, NoteOff, KeyPressure, Control, Program, Pressure, Bend}
 use Rattle.mt_base.specs.Midi.{MidiWhat, Says, SysexOf, MetaOf, MidiEvent, channel_of}
-use Rattle.midi_model.specs.Sysex.{Exactly, Any, begins, Retune, Plays, Resets, Tunes, Nothing, tunes, doing, is_reset, is_tuning, tuning_of}
+use Rattle.midi_model.specs.Sysex.{Exactly, Any, begins, Retune, Plays, Resets, Nothing, tunes, doing, is_reset, is_tuning, tuning_of}
 use Rattle.midi_model.specs.Channel.{Role, Stored, EntryHigh, EntryLow, NrpnLow, NrpnHigh, RpnLow, RpnHigh, AllSoundOff, ResetControllers, AllNotesOff, Ignored, Channel, counted, role, controlled, apply, default_channel}
 use Rattle.midi_model.specs.Params.{counts}
 use Rattle.midi_model.specs.Zones.{bend_ranges}
-use Rattle.midi_model.specs.Music.{Music, quiet, channel_at, asks, zones_after, advance, step}
+use Rattle.midi_model.specs.Music.{Music, quiet, channel_at, zones_after, advance, step}
 use Rattle.retune_model.specs.Table.{Bounds, tuning_target}
 use Rattle.retune_model.specs.Faults.{Targets, Kind, TuningInSource, Port, is_part, misses_target, is_unmapped, is_out_of_device, is_unison, is_restrike, is_mode, is_data_step, is_entry, is_selected, is_tuning_entry, is_zone_entry, is_poly, first_that, message_tests, is_port, fault_in, IsFaultless}
 use Rattle.retune_model.proofs.Faultless.{message_asks_none}
-use Rattle.mtune_core.specs.Source.{is_retuned, is_plain, is_plain_sysex, is_taken, note_on}
+use Rattle.mtune_core.specs.Source.{is_plain, is_plain_sysex, is_taken, note_on}
 use Rattle.mtune_core.specs.Chosen.{dump_options, is_on_key, uses_key}
 
 guard : (b x : Bool) → (b ≡ true → x ≡ false) → (b && x) ≡ false

@@ -1,13 +1,11 @@
 -- What an input gives, and what is refused of it.
-use Rattle.std.proofs.Common.{Fits, w8, zero, suc, ◌∷◌, [], ◌≡◌, ◌<◌, ◌≤◌, ◌^◌, ℕ, List, length, Bool, true, false, Option, Some, None, is_some, get_or, refl, ap, sym, subst, ◌∙◌, inl, inr, arith}
+use Rattle.std.proofs.Common.{Fits, w8, suc, ◌∷◌, [], ◌≡◌, ◌<◌, ◌≤◌, ℕ, List, length, true, false, Option, None, is_some, get_or, refl, ap, sym, subst, ◌∙◌, inl, inr, arith}
 use Rattle.std.specs.Prelude.{Result, Ok, Err, IfOk}
 use Rattle.std.specs.List.{AllByRecursion}
-use Rattle.mt_base.specs.Midi.{MidiEvent}
 use Rattle.mt_base.specs.Valid.{IsValidEvent}
 use Rattle.midi_model.specs.FileText.{MidiFile}
 use Rattle.midi_model.specs.Merged.{merged, IsPlayable}
 use Rattle.midi_model.specs.Spelling.{Spells}
-use Rattle.midi_model.specs.TuningBytes.{dump_bytes}
 use Rattle.midi_model.specs.Writing.{file_bytes}
 use Rattle.retune_model.specs.Table.{Scaling, IsTable, AreFewTerms}
 use Rattle.retune_model.specs.Dump.{tuning_if, tuning_at, values_from}
@@ -17,11 +15,11 @@ use Rattle.mtune_core.specs.declared.making.Made.{Made}
 use Rattle.mtune_core.specs.declared.outcome.Fault.{Fault}
 use Rattle.mtune_core.specs.declared.outcome.Fault.TheVariants.{Usage, NotYet, Load, TooLong, Scl, ReferenceUnmapped, TooManyPeriods, Smf, Store, Say, Memory}
 use Rattle.mtune_core.specs.declared.survey.Survey.{Survey}
-use Rattle.mtune_core.specs.Answers.{dumped_file, report_of, ArePlayed, IsUnplayed, IsRefusal}
+use Rattle.mtune_core.specs.Answers.{dumped_file, report_of, ArePlayed, IsRefusal}
 use Rattle.mtune_core.specs.Causes.{table_fn, AreTaken, IsRetuned, InputCause}
 use Rattle.mtune_core.specs.Chosen.{uses_key}
 use Rattle.mtune_core.specs.Survey.{survey_of}
-use Rattle.mtune_core.proofs.PlaysSame.{plays_the_same, values_are, values_count, dump_length, used_below}
+use Rattle.mtune_core.proofs.PlaysSame.{plays_the_same, values_are, values_count, dump_length}
 use Rattle.mtune_core.proofs.SurveyFacts.{found_keys, found_taken, found_untaken}
 use Rattle.mtune_core.proofs.Writable.{dumped_spells, division_below}
 

@@ -1,12 +1,11 @@
 -- What the program's survey of a source says of it.
-use Rattle.std.proofs.Common.{◌≡◌, ◌≤◌, ◌<◌, ℕ, zero, suc, ◌+◌, List, [], ◌∷◌, ◌++◌, Bool, true, false, cond, not, ◌&&◌, ◌||◌, nat_eq, Option, Some, None, is_some, set, get_or, length, replicate, filter, sum_by, count_by, refl, ap, sym, subst, ◌∙◌, arith, inl, inr, get_or-set_same, get_or-set_other, length-set, eq-eqb, ne_eqb, eqb-true}
+use Rattle.std.proofs.Common.{◌≡◌, ◌<◌, ℕ, zero, suc, ◌+◌, List, [], ◌∷◌, ◌++◌, Bool, true, false, cond, ◌&&◌, ◌||◌, nat_eq, Option, Some, None, is_some, set, get_or, length, replicate, filter, sum_by, count_by, refl, ap, sym, ◌∙◌, arith, inl, inr, get_or-set_same, get_or-set_other, length-set, eq-eqb, ne_eqb, eqb-true}
 use Rattle.std.specs.List.{AllByRecursion}
-use Rattle.std.proofs.lemmas.Bool.{cases_eq, or_left, or_right, both_ways, and_parts}
+use Rattle.std.proofs.lemmas.Bool.{cases_eq, or_right, and_parts}
 use Rattle.std.proofs.lemmas.List.Sums.{sum_by-cons}
-use Rattle.mt_base.specs.declared.event.Msg.{Msg}
 use Rattle.mt_base.specs.declared.event.Msg.TheVariants.{NoteOn, NoteOff, KeyPressure, Control, Program, Pressure, Bend}
 use Rattle.mt_base.specs.Midi.{MidiWhat, Says, SysexOf, MetaOf, MidiEvent}
-use Rattle.mt_base.specs.Valid.{IsValidMsg, IsValidWhat, IsValidEvent}
+use Rattle.mt_base.specs.Valid.{IsValidWhat, IsValidEvent}
 use Rattle.retune_model.specs.Faults.{is_part}
 use Rattle.retune_model.specs.PlaysTheSame.{begins_note}
 use Rattle.retune_model.specs.Routes as routes

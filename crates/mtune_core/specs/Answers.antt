@@ -1,23 +1,20 @@
 -- What the call answers.
-use Rattle.std.specs.Prelude.{ℕ, ◌≡◌, ◌<◌, ◌⊎◌, ◌^◌, List, length, map, get_or, All, Bool, true, false, count_by, Err, Option, Some, None, is_some}
-use Rattle.std.specs.List.{AllByRecursion}
+use Rattle.std.specs.Prelude.{ℕ, ◌≡◌, ◌<◌, ◌⊎◌, List, length, get_or, Bool, true, false, count_by, Option, Some, None, is_some}
 use Rattle.mt_base.specs.Midi.{MidiEvent}
-use Rattle.midi_model.specs.FileText.{MidiFile, file_at}
+use Rattle.midi_model.specs.FileText.{MidiFile}
 use Rattle.midi_model.specs.Merged.{merged}
 use Rattle.midi_model.specs.Spelling.{Spells}
 use Rattle.midi_model.specs.TuningBytes.{dump_bytes}
-use Rattle.midi_model.specs.Writing.{Written, written, file_bytes}
 use Rattle.event_stream.specs.Distributed.{distributed}
 use Rattle.retune_model.specs.PlaysTheSame.{begins_note}
 use Rattle.retune_model.specs.Faults.{is_part}
 use Rattle.retune_model.specs.Dump.{dumped, sounding_parts}
 use Rattle.retune_model.specs.Routes.{Setup}
 use Rattle.mtune_core.specs.declared.outcome.Fault.{Fault}
-use Rattle.mtune_core.specs.declared.outcome.Fault.TheVariants.{NotYet, Smf, Store, Say, Memory}
+use Rattle.mtune_core.specs.declared.outcome.Fault.TheVariants.{NotYet}
 use Rattle.mtune_core.specs.declared.survey.Survey.{Survey}
 use Rattle.mtune_core.specs.Status.{status_of}
-use Rattle.mtune_core.specs.Source.{is_taken}
-use Rattle.mtune_core.specs.Chosen.{dump_options, uses_key}
+use Rattle.mtune_core.specs.Chosen.{dump_options}
 use Rattle.mtune_core.specs.Lines.{report_text}
 use Rattle.mtune_core.specs.Putting.{written_from}
 

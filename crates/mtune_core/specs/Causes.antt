@@ -1,5 +1,5 @@
 -- When each answer comes. What is held is told or not: where it isn't, some content is meant that was loaded.
-use Rattle.std.specs.Prelude.{ℕ, ◌≡◌, ◌<◌, ◌≤◌, ◌⊎◌, ◌∷◌, ◌++◌, List, length, Bool, true, false, Option, Some, None, is_some}
+use Rattle.std.specs.Prelude.{ℕ, ◌≡◌, ◌<◌, ◌≤◌, ◌⊎◌, ◌∷◌, ◌++◌, List, length, Bool, true, false, Option, Some, None}
 use Rattle.std.specs.List.{AllByRecursion}
 use Rattle.mt_base.specs.Midi.{MidiEvent}
 use Rattle.scala_lines.specs.Lines.{lines_of}
@@ -20,10 +20,10 @@ use Rattle.key_pitch.specs.Aims.{table_of}
 use Rattle.key_pitch.specs.declared.table.KeyTable.{KeyTable}
 use Rattle.mtune_files.specs.declared.which.Which.{Which}
 use Rattle.mtune_files.specs.declared.which.Which.TheVariants.{Scale, Map, Input}
-use Rattle.mtune_files.specs.Names.{Held, IsHeld, IsNamed, IsLongerThan, stored, appended, AppendsFront}
+use Rattle.mtune_files.specs.Names.{Held, IsHeld, IsNamed, IsLongerThan}
 use Rattle.mtune_files.specs.Faults.{Faults, Rose, count_of}
 use Rattle.mtune_core.specs.declared.outcome.Fault.{Fault}
-use Rattle.mtune_core.specs.declared.outcome.Fault.TheVariants.{Usage, NotYet, Load, TooLong, Scl, ReferenceUnmapped, TooManyPeriods, Smf, Store, Say, Memory}
+use Rattle.mtune_core.specs.declared.outcome.Fault.TheVariants.{Usage, NotYet, Load, TooLong, Scl, TooManyPeriods, Smf, Store, Say, Memory}
 use Rattle.mtune_core.specs.Answers.{dumped_file, report_of}
 use Rattle.mtune_core.specs.Chosen.{dump_options, uses_key}
 use Rattle.mtune_core.specs.Command.{Command, command_of}

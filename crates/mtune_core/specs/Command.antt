@@ -1,5 +1,5 @@
 -- The words that the command takes: `--scale S --a440 --route dump --out O INPUT`, exactly and in this order.
-use Rattle.std.specs.Prelude.{◌≡◌, ℕ, List, [], ◌∷◌, Bool, true, false, not, ◌==◌, codes, map, Option, Some, None, bytes_eq, if◌then◌else◌}
+use Rattle.std.specs.Prelude.{ℕ, List, [], ◌∷◌, Bool, true, not, ◌==◌, codes, map, Option, Some, None, bytes_eq, if◌then◌else◌}
 use Rattle.std.specs.Borrow.{Bor}
 use Rattle.mtune_core.specs.declared.words.Command as program
 

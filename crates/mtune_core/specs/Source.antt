@@ -1,6 +1,5 @@
 -- What the source's events are to the dump route, as far as it is built.
 use Rattle.std.specs.Prelude.{ℕ, suc, List, [], ◌∷◌, Bool, true, false, not, ◌&&◌, ◌||◌, ◌==◌, nat_le, if◌then◌else◌, Option, Some, None}
-use Rattle.mt_base.specs.declared.event.Msg.{Msg}
 use Rattle.mt_base.specs.declared.event.Msg.TheVariants.{NoteOn, Control}
 use Rattle.mt_base.specs.Midi.{MidiWhat, Says, SysexOf, MetaOf}
 

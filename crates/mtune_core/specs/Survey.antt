@@ -1,6 +1,6 @@
 -- What the whole source has, found event by event.
-use Rattle.std.specs.Prelude.{ℕ, ◌+◌, List, [], ◌∷◌, Bool, true, false, ◌&&◌, Option, Some, None, set, replicate, fold}
-use Rattle.mt_base.specs.Midi.{MidiEvent, MidiWhat}
+use Rattle.std.specs.Prelude.{ℕ, ◌+◌, List, [], ◌∷◌, true, false, ◌&&◌, Option, Some, None, set, replicate}
+use Rattle.mt_base.specs.Midi.{MidiEvent}
 use Rattle.mtune_core.specs.declared.survey.Survey.{Survey}
 use Rattle.mtune_core.specs.Source.{is_taken, note_on}
 

@@ -338,3 +338,68 @@ fn fault_that_cannot_be_said(rt: HostRuntime) -> Result<(), Fail> {
     assert_eq!(rt; files.count(4), 1);
     Ok(())
 }
+
+#[test]
+fn pieces_without_retuned_notes_stay(rt: HostRuntime) -> Result<(), Fail> {
+    let alloc = rt.alloc();
+    // an end of track alone; notes of the drums alone; a delta time in more bytes than it needs
+    let rows: [(&[u8], &[u8]); 3] = [
+        (b"\x00\xff\x2f\x00", b"\x00\xff\x2f\x00"),
+        (
+            b"\x00\x99\x24\x40\x00\x24\x40\x60\x24\x00\x00\x24\x00\x00\xff\x2f\x00",
+            b"\x00\x99\x24\x40\x00\x24\x40\x60\x24\x00\x00\x24\x00\x00\xff\x2f\x00",
+        ),
+        (b"\x80\x80\x00\xff\x2f\x00", b"\x00\xff\x2f\x00"),
+    ];
+    for (content, wanted) in rows {
+        let input = file(alloc, 0, 1, &[content])?;
+        let mut files = files(alloc, E12, input.as_slice())?;
+        let outcome = run(alloc, WORDS.as_slice(), &mut files);
+        let output = file(alloc, 0, 1, &[wanted])?;
+        let said = "route dump\nnotes 0\nchannels 0\n";
+        check(&rt, &files, outcome, None, 0, said, Some(output.as_slice()));
+    }
+    Ok(())
+}
+
+#[test]
+fn what_is_not_taken_yet_is_refused(rt: HostRuntime) -> Result<(), Fail> {
+    let alloc = rt.alloc();
+    let words = WORDS.as_slice();
+    // a reset of the receiver; data entry on a part that is retuned
+    let rows: [&[u8]; 2] = [
+        b"\x00\xf0\x05\x7e\x7f\x09\x01\xf7\x00\xff\x2f\x00",
+        b"\x00\xb0\x06\x02\x00\xff\x2f\x00",
+    ];
+    for content in rows {
+        let input = file(alloc, 0, 1, &[content])?;
+        let fault = Fault::NotYet { kind: 2 };
+        check_refused(
+            &rt,
+            alloc,
+            E12,
+            input.as_slice(),
+            words,
+            fault,
+            2,
+            ["mtune: not yet ", "2"],
+        )?;
+    }
+    // key 69 is at 6,900 cents, so in steps of an octave key 63 is 300 cents below the device's lowest pitch
+    let low = file(
+        alloc,
+        0,
+        1,
+        &[b"\x00\x90\x3f\x40\x10\x80\x3f\x40\x00\xff\x2f\x00"],
+    )?;
+    check_refused(
+        &rt,
+        alloc,
+        "octaves\n1\n1200.0\n",
+        low.as_slice(),
+        words,
+        Fault::NotYet { kind: 3 },
+        2,
+        ["mtune: not yet ", "3"],
+    )
+}

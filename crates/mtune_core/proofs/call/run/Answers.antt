@@ -1,4 +1,4 @@
-use Rattle.std.proofs.Common.{ap, sym, subst}
+use Rattle.std.proofs.Common.{sym, subst}
 use Rattle.mtune_core.specs.Call.{IsRefused}
 use Rattle.mtune_core.specs.Command.{texts}
 use Rattle.mtune_core.proofs.Ended.{refused_stays, clash}

@@ -1,6 +1,6 @@
 use Rattle.std.proofs.Common.{◌≡◌, ℕ, ◌+◌, ◌-◌, List, ◌++◌, length, take, drop, slice_index_or, false, sym, ap, subst, ◌∙◌, arith}
 use Rattle.std.specs.Prelude.{OnOk}
-use Rattle.mt_base.specs.Midi.{MidiEvent, view}
+use Rattle.mt_base.specs.Midi.{view}
 use Rattle.midi_model.specs.Writing.{Written}
 use Rattle.mtune_core.specs.Putting.{put_all, AllMayPut, select_if, select_events, marked}
 use Rattle.mtune_core.proofs.Puts.{select_front, no_select, none_put, may_front, may_behind, put_append, rest_len}

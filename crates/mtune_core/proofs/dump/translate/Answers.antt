@@ -1,5 +1,5 @@
-use Rattle.std.proofs.Common.{◌≡◌, List, ◌++◌, sym, ap, subst, ◌∙◌}
-use Rattle.mt_base.specs.Midi.{MidiEvent, view}
+use Rattle.std.proofs.Common.{◌≡◌, ◌++◌, sym, ap, subst, ◌∙◌}
+use Rattle.mt_base.specs.Midi.{view}
 use Rattle.mtune_core.specs.Putting.{AllMayPut, put_all, block_events, has_begun, written_from, view_setup}
 use Rattle.mtune_core.proofs.Puts.{may_front, may_behind, put_append, none_put, written_next, nothing_written}
 use Rattle.mtune_core.proofs.dump.translate.Goals as goal

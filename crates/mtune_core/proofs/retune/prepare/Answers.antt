@@ -1,4 +1,4 @@
-use Rattle.std.proofs.Common.{ℕ, List, Option, rules}
+use Rattle.std.proofs.Common.{Option, rules}
 use Rattle.std.specs.Prelude.{Result, Ok, Err, IfOk}
 use Rattle.mtune_files.specs.Names.{Held}
 use Rattle.retune_model.specs.Faults.{Targets}

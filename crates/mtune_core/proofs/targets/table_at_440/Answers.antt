@@ -1,5 +1,5 @@
-use Rattle.std.proofs.Common.{◌≡◌, ℕ, ap, subst}
-use Rattle.kbm_text.specs.Map.{Map, view, a440}
+use Rattle.std.proofs.Common.{◌≡◌, ap, subst}
+use Rattle.kbm_text.specs.Map.{Map}
 use Rattle.retune_model.specs.Scale.{Mapping, a440_mapping}
 use Rattle.retune_model.specs.Table.{IsTable, AreFewTerms, one_scale}
 use Rattle.key_pitch.specs.Views.{steps_of, view_mapping}
