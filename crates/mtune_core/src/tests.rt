@@ -233,6 +233,35 @@ fn cut_inputs_are_refused(rt: HostRuntime) -> Result<(), Fail> {
 }
 
 #[test]
+fn broken_tracks_are_refused(rt: HostRuntime) -> Result<(), Fail> {
+    let cases: [(&[u8], u32, SmfKind, &str); 4] = [
+        (b"\x81\x82\x83\x84\x05", 25, SmfKind::BadDelta, "25 kind 7"),
+        // running status that a meta event cut
+        (
+            b"\x00\x90\x45\x40\x00\xff\x01\x00\x00\x45\x00\x00\xff\x2f\x00",
+            31,
+            SmfKind::NoStatus,
+            "31 kind 8",
+        ),
+        (b"\x00\xf0\x05\x7e\x7f", 27, SmfKind::Truncated, "27 kind 5"),
+        (
+            b"\x01\xff\x01\x00\xff\xff\xff\x7f\xff\x2f\x00",
+            26,
+            SmfKind::TrackTooLong,
+            "26 kind 12",
+        ),
+    ];
+    let alloc = rt.alloc();
+    for (content, offset, kind, rest) in cases {
+        let input = file(alloc, 0, 1, &[content])?;
+        let fault = Fault::Smf { offset, kind };
+        let line = ["mtune: input byte ", rest];
+        check_refused(&rt, alloc, E12, input.as_slice(), &WORDS, fault, 2, line)?;
+    }
+    Ok(())
+}
+
+#[test]
 fn broken_scales_are_refused(rt: HostRuntime) -> Result<(), Fail> {
     let cases: [(&str, u32, SclKind, &str); 4] = [
         ("", 1, SclKind::NoDescription, "1 kind 1"),
@@ -342,14 +371,18 @@ fn fault_that_cannot_be_said(rt: HostRuntime) -> Result<(), Fail> {
 #[test]
 fn pieces_without_retuned_notes_stay(rt: HostRuntime) -> Result<(), Fail> {
     let alloc = rt.alloc();
-    // an end of track alone; notes of the drums alone; a delta time in more bytes than it needs
-    let rows: [(&[u8], &[u8]); 3] = [
+    // an end of track alone; notes of the drums alone; a delta time in more bytes than it needs; the last tick
+    let rows: [(&[u8], &[u8]); 4] = [
         (b"\x00\xff\x2f\x00", b"\x00\xff\x2f\x00"),
         (
             b"\x00\x99\x24\x40\x00\x24\x40\x60\x24\x00\x00\x24\x00\x00\xff\x2f\x00",
             b"\x00\x99\x24\x40\x00\x24\x40\x60\x24\x00\x00\x24\x00\x00\xff\x2f\x00",
         ),
         (b"\x80\x80\x00\xff\x2f\x00", b"\x00\xff\x2f\x00"),
+        (
+            b"\xff\xff\xff\x7f\xff\x2f\x00",
+            b"\xff\xff\xff\x7f\xff\x2f\x00",
+        ),
     ];
     for (content, wanted) in rows {
         let input = file(alloc, 0, 1, &[content])?;
