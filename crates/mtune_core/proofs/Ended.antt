@@ -54,7 +54,7 @@ cause_stays steady held first before now c (NotYet kind) s h = h
 cause_stays steady held first before now c (Usage kind) s h = absurd h
 cause_stays steady held first before now c Store s h = absurd h
 cause_stays steady held first before now c Say s h = absurd h
-cause_stays steady held first before now c Memory s h = tt
+cause_stays steady held first before now c Memory s h = λ which. sym (loads_stay which before now s) ∙ h which
 
 -- What a refusal is stays, while its line is said.
 pub refused_stays : (steady : Bool) (held mid after : Option Held) (said said_mid said_after : Option (List ℕ)) (first before now : Faults) (words : List (List ℕ)) (fault : Fault)

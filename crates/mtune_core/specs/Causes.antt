@@ -35,11 +35,15 @@ use Rattle.mtune_core.specs.Source.{is_taken}
 abbrev pub At : Option Held → List ℕ → (List ℕ → Type 0) → Type 0
 At held name P = (content : List ℕ) × IsHeld held name content × P content
 
+-- no failed load was counted
+abbrev pub NoneFailed : Faults → Faults → Type 0
+NoneFailed before now = (which : Which) → count_of which now ≡ count_of which before
+
 -- that kind of load failed and was counted, never for a held name over steady files; or what is held is too long
 abbrev pub LoadCause : Bool → Option Held → Faults → Faults → Which → List ℕ → ℕ → Fault → Type 0
 LoadCause steady held before now which name limit (Load w) = (w ≡ which) × Rose (count_of which before) (count_of which now) × (steady ≡ true → IsNamed held name → ⊥)
 LoadCause steady held before now which name limit (TooLong w) = (w ≡ which) × IsLongerThan held name limit
-LoadCause steady held before now which name limit Memory = Unit {0}
+LoadCause steady held before now which name limit Memory = NoneFailed before now
 LoadCause steady held before now which name limit _ = ⊥
 
 -- ---- the scale
@@ -75,7 +79,7 @@ TableCause steady held before now name (Load w) = LoadCause steady held before n
 TableCause steady held before now name (TooLong w) = LoadCause steady held before now Scale name 262144 (TooLong w)
 TableCause steady held before now name (Scl line kind) = At held name (λ text. ScaleFault (lines_of text) line kind)
 TableCause steady held before now name (TooManyPeriods key) = At held name (λ text. (entries : List Entry) × ScaleText (lines_of text) entries × IsTuneFault (steps_of entries) (TooManyPeriods key))
-TableCause steady held before now name Memory = Unit {0}
+TableCause steady held before now name Memory = NoneFailed before now
 TableCause steady held before now name _ = ⊥
 
 -- a table of the scale that is held at a name
@@ -130,7 +134,7 @@ FromCause steady held before now name table (Load w) = LoadCause steady held bef
 FromCause steady held before now name table (TooLong w) = LoadCause steady held before now Input name 4194304 (TooLong w)
 FromCause steady held before now name table (Smf offset kind) = At held name (λ input. FirstFault input offset kind)
 FromCause steady held before now name table (NotYet kind) = At held name (λ input. InputCause table input (NotYet kind))
-FromCause steady held before now name table Memory = Unit {0}
+FromCause steady held before now name table Memory = NoneFailed before now
 FromCause steady held before now name table _ = ⊥
 
 -- a scale that gives a table stands at its name
@@ -153,7 +157,7 @@ CommandCause steady held before now c (Scl line kind) = TableCause steady held b
 CommandCause steady held before now c (TooManyPeriods key) = TableCause steady held before now c.scale (TooManyPeriods key)
 CommandCause steady held before now c (Smf offset kind) = PassesTo held c (Smf offset kind)
 CommandCause steady held before now c (NotYet kind) = PassesTo held c (NotYet kind)
-CommandCause steady held before now c Memory = Unit {0}
+CommandCause steady held before now c Memory = NoneFailed before now
 CommandCause steady held before now c _ = ⊥
 
 -- what is made for a command
