@@ -1,5 +1,5 @@
 -- How a call ends.
-use Rattle.std.proofs.Common.{◌≡◌, ◌⊎◌, ℕ, List, Bool, true, false, Option, refl, sym, ap, subst, ◌∙◌, inl, inr}
+use Rattle.std.proofs.Common.{◌≡◌, ◌≢◌, ◌⊎◌, ℕ, List, Bool, true, false, Option, refl, sym, ap, subst, ◌∙◌, inl, inr}
 use Rattle.mtune_files.specs.Names.{Held, IsSameBut}
 use Rattle.mtune_files.specs.Faults.{Faults, Rises, RisesSays, Rose, count_of, with_count}
 use Rattle.mtune_files.specs.declared.which.Which.{Which}
@@ -84,3 +84,17 @@ refused_stays steady held mid after said said_mid said_after first before now wo
 pub clash : (b : Bool) → b ≡ true → b ≡ false → ⊥
 clash true e f = absurd cc
 clash false e f = absurd cc
+
+-- Where no other fault has a cause, the fault is want of memory.
+pub only_memory : (Caused : Fault → Type 0) (fault : Fault) → Caused fault → ((e : Fault) → e ≢ Memory → Caused e → ⊥) → fault ≡ Memory
+only_memory Caused Memory caused none = refl
+only_memory Caused (Usage kind) caused none = absurd (none (Usage kind) (λ e. absurd cc) caused)
+only_memory Caused (NotYet kind) caused none = absurd (none (NotYet kind) (λ e. absurd cc) caused)
+only_memory Caused (Load which) caused none = absurd (none (Load which) (λ e. absurd cc) caused)
+only_memory Caused (TooLong which) caused none = absurd (none (TooLong which) (λ e. absurd cc) caused)
+only_memory Caused (Scl line kind) caused none = absurd (none (Scl line kind) (λ e. absurd cc) caused)
+only_memory Caused (ReferenceUnmapped key) caused none = absurd (none (ReferenceUnmapped key) (λ e. absurd cc) caused)
+only_memory Caused (TooManyPeriods key) caused none = absurd (none (TooManyPeriods key) (λ e. absurd cc) caused)
+only_memory Caused (Smf offset kind) caused none = absurd (none (Smf offset kind) (λ e. absurd cc) caused)
+only_memory Caused Store caused none = absurd (none Store (λ e. absurd cc) caused)
+only_memory Caused Say caused none = absurd (none Say (λ e. absurd cc) caused)

@@ -1,4 +1,4 @@
-ghost use Rattle.std.specs.Prelude.{◌≡◌, ◌⊎◌, IfSome, IfNone, IfErr, OnOk};
+ghost use Rattle.std.specs.Prelude.{◌≡◌, ◌≢◌, ◌⊎◌, IfSome, IfNone, IfErr, OnOk};
 ghost use Rattle.mtune_files.specs.Names.{appended, AppendsFront};
 ghost use Rattle.mtune_files.specs.Faults.{RisesSays};
 ghost use Rattle.mtune_core.specs.Answers.{status_if};
@@ -52,6 +52,7 @@ pub fn run<F: Files>(alloc: Global, words: &[&str], files: &mut F) -> Outcome
     ensures status { result.status ≡ status_if result.fault }
     ensures done { IfNone result.fault (IsDone (F.held files.old) (F.held files.new) (F.said files.old) (F.said files.new) (texts words.now)) }
     ensures refused { IfSome result.fault (λ e. IsRefused (F.steady files.old) (F.held files.old) (F.held files.new) (F.said files.old) (F.said files.new) (F.faults files.old) (F.faults files.new) (texts words.now) e) }
+    ensures complete { ((e : Fault) → e ≢ Fault.Memory → IsRefused (F.steady files.old) (F.held files.old) (F.held files.new) (F.said files.old) (F.said files.new) (F.faults files.old) (F.faults files.new) (texts words.now) e → ⊥) → IfSome result.fault (λ e. e ≡ Fault.Memory) }
     ensures told { IfSome result.fault (λ e. IsTold (F.said files.old) (F.said files.new) (F.faults files.old) (F.faults files.new) e) }
 {
     match perform(alloc, words, files) {

@@ -1,7 +1,7 @@
 use Rattle.std.proofs.Common.{sym, subst}
 use Rattle.mtune_core.specs.Call.{IsRefused}
 use Rattle.mtune_core.specs.Command.{texts}
-use Rattle.mtune_core.proofs.Ended.{refused_stays, clash}
+use Rattle.mtune_core.proofs.Ended.{refused_stays, clash, only_memory}
 use Rattle.mtune_core.proofs.call.run.Goals as goal
 use Rattle.mtune_core.proofs.call.run.Goals.{then-not-matches, else-not-matches, in-Say, in_default}
 
@@ -21,3 +21,8 @@ returns-after-not-matches-clause-refused g c = elim c.if-not-matches.branch [
       (λ f. IsRefused (g.F.Files.steady c.args.files.now) (g.F.Files.held c.args.files.now) (g.F.Files.held f) (g.F.Files.said c.args.files.now) (g.F.Files.said f) (g.F.Files.faults c.args.files.now) (g.F.Files.faults f) (texts c.args.words.now) c.in-Err.fault)
       (sym w.files-is) c.in-Err.ensures.refused
 ]
+
+pub returns-after-not-matches-clause-complete : goal.returns-after-not-matches-clause-complete
+returns-after-not-matches-clause-complete g c = λ none. only_memory
+    (λ e. IsRefused (g.F.Files.steady c.args.files.now) (g.F.Files.held c.args.files.now) (g.F.Files.held c.if-not-matches.files) (g.F.Files.said c.args.files.now) (g.F.Files.said c.if-not-matches.files) (g.F.Files.faults c.args.files.now) (g.F.Files.faults c.if-not-matches.files) (texts c.args.words.now) e)
+    c.in-Err.fault (returns-after-not-matches-clause-refused g c) none
