@@ -6,3 +6,6 @@ pub mod Placed
 pub mod Few
 pub mod Filled
 pub mod Rounding
+pub mod Latest
+pub mod LastBegun
+pub mod Stretches
