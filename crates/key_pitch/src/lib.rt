@@ -15,7 +15,7 @@ pub use aim::Aim;
 pub use aims::Aims;
 pub use by_tick::TablesByTick;
 pub use fault::TuneFault;
-pub use laws::in_force_laws;
+pub use laws::{in_force_examples, in_force_laws};
 pub use table::KeyTable;
 
 #[cfg(test)]
