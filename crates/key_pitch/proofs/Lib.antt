@@ -9,3 +9,4 @@ pub mod Rounding
 pub mod Latest
 pub mod LastBegun
 pub mod Stretches
+pub mod Rising

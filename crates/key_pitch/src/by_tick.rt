@@ -18,7 +18,8 @@ impl<'a> TablesByTick<'a> {
     ghost use Rattle.key_pitch.specs.InForce.{in_force};
     ghost use Rattle.key_pitch.specs.ByTick.{entries_of};
 
-    /// Tables by the ticks at their sides. It takes no memory.
+    /// Tables by the ticks at their sides, the first of which has to be 0 and each other one above the one
+    /// before it. It takes no memory.
     pub fn new(entries: &'a [(u32, KeyTable)]) -> TablesByTick<'a>
         requires timeline { IsTimeline (ticks_of entries.now) }
         ensures entries { entries_of result ≡ entries.entry.now }

@@ -1,18 +1,21 @@
 //! Laws of tables by ticks.
 
-ghost use Rattle.std.specs.Prelude.{◌≡◌, ◌≢◌, ℕ, ◌<◌, ◌-◌, List, [], ◌∷◌, ◌++◌, length, slice_index, Some, None};
+ghost use Rattle.std.specs.Prelude.{◌≡◌, ◌≢◌, ℕ, ◌<◌, ◌≤◌, ◌-◌, List, [], ◌∷◌, ◌++◌, length, slice_index, Some, None};
+ghost use Rattle.std.specs.List.{AllByRecursion};
 ghost use Rattle.key_pitch.specs.declared.table.KeyTable.{KeyTable};
 ghost use Rattle.key_pitch.specs.InForce.{IsTimeline, ticks_of, in_force, IsLast};
 ghost use Rattle.key_pitch.specs.ByTick.{by_entries, scales_in_force, AreTablesOf};
 ghost use Rattle.retune_model.specs.Scale.{Step, Mapping};
 ghost use Rattle.retune_model.specs.Table.{IsTable, AreFewTerms};
 
-/// The table in force at a tick is the last one of its list whose tick isn't after it. Tables whose first
+/// The table in force at a tick is the last one of its list whose tick isn't after it; where the ticks rise,
+/// none that has begun is later. Tables whose first
 /// tick is 0 have one in force at every tick; where they are the tables of some scales, they are a table of
 /// the scale in force at each tick. A list of one tick, 0, may get further ones, each above the last.
 pub fn in_force_laws()
     ensures last { (tick : ℕ) (entries : List (ℕ × KeyTable)) (t : KeyTable) → in_force tick entries ≡ Some t → IsLast tick entries t }
     ensures only { (tick : ℕ) (entries : List (ℕ × KeyTable)) (t : KeyTable) → IsLast tick entries t → in_force tick entries ≡ Some t }
+    ensures latest { (tick : ℕ) (entries : List (ℕ × KeyTable)) (t : KeyTable) → IsTimeline (ticks_of entries) → (l : IsLast tick entries t) → AllByRecursion (λ e. e.0 ≤ tick → e.0 ≤ l.from) entries }
     ensures always { (tick : ℕ) (entries : List (ℕ × KeyTable)) → IsTimeline (ticks_of entries) → in_force tick entries ≢ None }
     ensures one { IsTimeline (0 ∷ []) }
     ensures further { (ticks : List ℕ) (from : ℕ) → IsTimeline ticks → slice_index ticks (length ticks - 1) < from → IsTimeline (ticks ++ from ∷ []) }

@@ -1,4 +1,5 @@
 use Rattle.key_pitch.proofs.LastBegun.{last_begun, only_last, always_begun}
+use Rattle.key_pitch.proofs.Rising.{began_last}
 use Rattle.key_pitch.proofs.Stretches.{table_of_stretches, few_of_stretches}
 use Rattle.key_pitch.proofs.laws.in_force_laws.Goals as goal
 
@@ -7,6 +8,9 @@ returns-clause-last c = last_begun
 
 pub returns-clause-only : goal.returns-clause-only
 returns-clause-only c = only_last
+
+pub returns-clause-latest : goal.returns-clause-latest
+returns-clause-latest c = began_last
 
 pub returns-clause-always : goal.returns-clause-always
 returns-clause-always c = always_begun
