@@ -10,3 +10,4 @@ pub mod Writable
 pub mod PlaysSame
 pub mod Retuned
 pub mod Ended
+pub mod Accepting

@@ -8,3 +8,4 @@ pub mod Putting
 pub mod Answers
 pub mod Causes
 pub mod Call
+pub mod Accepted

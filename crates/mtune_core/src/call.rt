@@ -1,11 +1,13 @@
 ghost use Rattle.std.specs.Prelude.{◌≡◌, ◌≢◌, ◌⊎◌, IfSome, IfNone, IfErr, OnOk};
 ghost use Rattle.mtune_files.specs.Names.{appended, AppendsFront};
 ghost use Rattle.mtune_files.specs.Faults.{RisesSays};
+ghost use Rattle.mtune_core.specs.Accepted.{IsAccepted, NoneRose};
 ghost use Rattle.mtune_core.specs.Answers.{status_if};
 ghost use Rattle.mtune_core.specs.Call.{IsDone, IsRefused, IsTold, IsQuiet};
 ghost use Rattle.mtune_core.specs.Command.{texts};
 ghost use Rattle.mtune_core.specs.Lines.{fault_line};
 
+use crate::accepted::accepted_has_no_fault;
 use crate::lines::line_of;
 use crate::outcome::{Fault, Outcome, status};
 use crate::retune::prepare;
@@ -53,6 +55,7 @@ pub fn run<F: Files>(alloc: Global, words: &[&str], files: &mut F) -> Outcome
     ensures done { IfNone result.fault (IsDone (F.held files.old) (F.held files.new) (F.said files.old) (F.said files.new) (texts words.now)) }
     ensures refused { IfSome result.fault (λ e. IsRefused (F.steady files.old) (F.held files.old) (F.held files.new) (F.said files.old) (F.said files.new) (F.faults files.old) (F.faults files.new) (texts words.now) e) }
     ensures complete { ((e : Fault) → e ≢ Fault.Memory → IsRefused (F.steady files.old) (F.held files.old) (F.held files.new) (F.said files.old) (F.said files.new) (F.faults files.old) (F.faults files.new) (texts words.now) e → ⊥) → IfSome result.fault (λ e. e ≡ Fault.Memory) }
+    ensures accepts { IsAccepted (F.held files.old) (texts words.now) → NoneRose (F.faults files.old) (F.faults files.new) → IfSome result.fault (λ e. e ≡ Fault.Memory) }
     ensures told { IfSome result.fault (λ e. IsTold (F.said files.old) (F.said files.new) (F.faults files.old) (F.faults files.new) e) }
 {
     match perform(alloc, words, files) {
@@ -61,6 +64,7 @@ pub fn run<F: Files>(alloc: Global, words: &[&str], files: &mut F) -> Outcome
             fault: None,
         },
         Err(fault) => {
+            accepted_has_no_fault();
             if !matches!(fault, Fault::Say) {
                 tell(files, &fault);
             }

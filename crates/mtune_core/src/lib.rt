@@ -1,6 +1,7 @@
 //! The command: what its words ask for, done over any `Files`.
 #![tactic(auto)]
 
+mod accepted;
 mod call;
 mod contents;
 mod dump;

@@ -26,3 +26,8 @@ pub returns-after-not-matches-clause-complete : goal.returns-after-not-matches-c
 returns-after-not-matches-clause-complete g c = λ none. only_memory
     (λ e. IsRefused (g.F.Files.steady c.args.files.now) (g.F.Files.held c.args.files.now) (g.F.Files.held c.if-not-matches.files) (g.F.Files.said c.args.files.now) (g.F.Files.said c.if-not-matches.files) (g.F.Files.faults c.args.files.now) (g.F.Files.faults c.if-not-matches.files) (texts c.args.words.now) e)
     c.in-Err.fault (returns-after-not-matches-clause-refused g c) none
+
+pub returns-after-not-matches-clause-accepts : goal.returns-after-not-matches-clause-accepts
+returns-after-not-matches-clause-accepts g c = λ accepted none. c.accepted_has_no_fault.ensures
+    (g.F.Files.steady c.args.files.now) (g.F.Files.held c.args.files.now) (g.F.Files.held c.if-not-matches.files) (g.F.Files.said c.args.files.now) (g.F.Files.said c.if-not-matches.files)
+    (g.F.Files.faults c.args.files.now) (g.F.Files.faults c.if-not-matches.files) (texts c.args.words.now) c.in-Err.fault accepted none (returns-after-not-matches-clause-refused g c)
