@@ -117,7 +117,7 @@ pub accepted_is_not_refused : OneAnswer → (steady : Bool) (held held_after : O
     → IsAccepted held words → NoneRose before now → IsRefused steady held held_after said said_after before now words fault → fault ≡ Memory
 accepted_is_not_refused laws steady held held_after said said_after before now words (Usage kind) a none h = let mine : command_of words ≡ Some a.command = a.is_command in let other : command_of words ≡ None = h.0.1 in absurd cc
 accepted_is_not_refused laws steady held held_after said said_after before now words Store a none h = absurd (none.stores h.2)
-accepted_is_not_refused laws steady held held_after said said_after before now words Say a none h = absurd (none.says h.3)
+accepted_is_not_refused laws steady held held_after said said_after before now words Say a none h = absurd (none.says h.3.rose)
 accepted_is_not_refused laws steady held held_after said said_after before now words (NotYet kind) a none h = its_cause laws steady held words a before now none (NotYet kind) h.0
 accepted_is_not_refused laws steady held held_after said said_after before now words (Load which) a none h = its_cause laws steady held words a before now none (Load which) h.0
 accepted_is_not_refused laws steady held held_after said said_after before now words (TooLong which) a none h = its_cause laws steady held words a before now none (TooLong which) h.0

@@ -1,7 +1,7 @@
 -- How a call ends: what is held, said and counted before it and after.
 use Rattle.std.specs.Prelude.{ℕ, ◌≡◌, ◌⊎◌, List, Bool, Option, Some}
 use Rattle.mtune_files.specs.Names.{Held, IsSameBut, stored, appended, AppendsFront}
-use Rattle.mtune_files.specs.Faults.{Faults, Rose}
+use Rattle.mtune_files.specs.Faults.{Faults, Rose, RisesSays}
 use Rattle.mtune_core.specs.declared.outcome.Fault.{Fault}
 use Rattle.mtune_core.specs.declared.outcome.Fault.TheVariants.{Store, Say}
 use Rattle.mtune_core.specs.Causes.{EarlyCause, IsPrepared}
@@ -20,10 +20,11 @@ pub record IsMade (held : Option Held) (words : List (List ℕ)) : Type 0 where
 abbrev pub IsDone : Option Held → Option Held → Option (List ℕ) → Option (List ℕ) → List (List ℕ) → Type 0
 IsDone held held_after said said_after words = (m : IsMade held words) × (held_after ≡ stored held m.command.out m.output) × (said_after ≡ appended said m.report)
 
--- Before the store nothing changes; a failed store changes nothing at other names; after a failed say the output is held.
+-- Before the store nothing changes; a failed store changes nothing at other names; after a failed say the output is held, and
+-- no other call was counted as failed.
 abbrev pub IsRefused : Bool → Option Held → Option Held → Option (List ℕ) → Option (List ℕ) → Faults → Faults → List (List ℕ) → Fault → Type 0
 IsRefused steady held held_after said said_after before now words Store = (m : IsMade held words) × IsSameBut m.command.out held held_after × Rose before.stores now.stores
-IsRefused steady held held_after said said_after before now words Say = (m : IsMade held words) × (held_after ≡ stored held m.command.out m.output) × AppendsFront m.report said said_after × Rose before.says now.says
+IsRefused steady held held_after said said_after before now words Say = (m : IsMade held words) × (held_after ≡ stored held m.command.out m.output) × AppendsFront m.report said said_after × RisesSays before now
 IsRefused steady held held_after said said_after before now words fault = EarlyCause steady held before now words fault × (held_after ≡ held)
 
 -- The line of the fault was said, or a front of it and its failure was counted; after a failed say nothing more is.

@@ -1,6 +1,6 @@
 use Rattle.std.proofs.Common.{◌≡◌, ap, sym, subst, ◌∙◌}
 use Rattle.mtune_files.specs.Names.{IsSameBut, AppendsFront, stored, appended}
-use Rattle.mtune_files.specs.Faults.{Faults, Rose}
+use Rattle.mtune_files.specs.Faults.{Faults, Rose, RisesSays}
 use Rattle.mtune_core.specs.Call.{IsMade}
 use Rattle.mtune_core.specs.Command.{texts, view_command}
 use Rattle.mtune_core.proofs.call.perform.Goals as goal
@@ -36,11 +36,11 @@ returns-in-Err-say-clause-refused g c =
     let quiet : g.F.Files.said c.store.new.self ≡ g.F.Files.said c.args.files.now = c.in-Ok-store.ensures.said ∙ c.in-Ok.ensures.said in
     let same : g.F.Files.faults c.store.new.self ≡ g.F.Files.faults c.args.files.now = c.in-Ok-store.ensures.counts ∙ c.in-Ok.ensures.counts in
     let front : AppendsFront c.deref-in-Ok-store.result.now (g.F.Files.said c.store.new.self) (g.F.Files.said c.say.new.self) = c.in-Err-say.ensures.front in
-    let rose : Rose (g.F.Files.faults c.store.new.self).says (g.F.Files.faults c.say.new.self).says = c.in-Err-say.ensures.failed.rose in (
+    let rises : RisesSays (g.F.Files.faults c.store.new.self) (g.F.Files.faults c.say.new.self) = c.in-Err-say.ensures.failed in (
       made,
       held,
       subst (λ s. AppendsFront made.report s (g.F.Files.said c.say.new.self)) quiet (subst (λ t. AppendsFront t (g.F.Files.said c.store.new.self) (g.F.Files.said c.say.new.self)) report front),
-      subst (λ (f : Faults). Rose f.says (g.F.Files.faults c.say.new.self).says) same rose,
+      subst (λ (f : Faults). RisesSays f (g.F.Files.faults c.say.new.self)) same rises,
     )
 
 pub returns-clause-done : goal.returns-clause-done
