@@ -97,7 +97,7 @@ no_cause laws steady held words a before now none (Smf offset kind) h =
     absurd (laws.no_file_fault a.input a.source offset kind a.spelled (its_input held words a (λ input. FirstFault input offset kind) h.2))
 no_cause laws steady held words a before now none (NotYet kind) h =
     let from : (entries : List Entry) × IsScale a.text entries × IsTable (scaling_of entries) h.0 =
-      its_text held words a (λ text. (entries : List Entry) × IsScale text entries × IsTable (scaling_of entries) h.0) h.1 in
+    its_text held words a (λ text. (entries : List Entry) × IsScale text entries × IsTable (scaling_of entries) h.0) h.1 in
     let same : from.0 ≡ a.entries = laws.one_scale (lines_of a.text) from.0 a.entries from.1.read a.is_scale.read in
     absurd (not_yet laws held words a h.0 kind (subst (λ es. IsTable (scaling_of es) h.0) same from.2) (its_input held words a (λ input. InputCause h.0 input (NotYet kind)) h.2))
 no_cause laws steady held words a before now none (ReferenceUnmapped key) h = absurd h

@@ -18,6 +18,7 @@ use std::alloc::Global;
 /// All that the words ask for, but what is said of a fault.
 fn perform<F: Files>(alloc: Global, words: &[&str], files: &mut F) -> Result<(), Fault>
     ensures done { OnOk result (IsDone (F.held files.old) (F.held files.new) (F.said files.old) (F.said files.new) (texts words.now)) }
+    ensures counts { OnOk result (F.faults files.new ≡ F.faults files.old) }
     ensures refused { IfErr result (λ e. IsRefused (F.steady files.old) (F.held files.old) (F.held files.new) (F.said files.old) (F.said files.new) (F.faults files.old) (F.faults files.new) (texts words.now) e) }
     ensures quiet { IfErr result (λ e. IsQuiet (F.said files.old) (F.said files.new) (F.faults files.old) (F.faults files.new) e) }
 {
@@ -53,6 +54,7 @@ fn tell<F: Files>(files: &mut F, fault: &Fault)
 pub fn run<F: Files>(alloc: Global, words: &[&str], files: &mut F) -> Outcome
     ensures status { result.status ≡ status_if result.fault }
     ensures done { IfNone result.fault (IsDone (F.held files.old) (F.held files.new) (F.said files.old) (F.said files.new) (texts words.now)) }
+    ensures counts { IfNone result.fault (F.faults files.new ≡ F.faults files.old) }
     ensures refused { IfSome result.fault (λ e. IsRefused (F.steady files.old) (F.held files.old) (F.held files.new) (F.said files.old) (F.said files.new) (F.faults files.old) (F.faults files.new) (texts words.now) e) }
     ensures complete { ((e : Fault) → e ≢ Fault.Memory → IsRefused (F.steady files.old) (F.held files.old) (F.held files.new) (F.said files.old) (F.said files.new) (F.faults files.old) (F.faults files.new) (texts words.now) e → ⊥) → IfSome result.fault (λ e. e ≡ Fault.Memory) }
     ensures accepts { IsAccepted (F.held files.old) (texts words.now) → NoneRose (F.faults files.old) (F.faults files.new) → IfSome result.fault (λ e. e ≡ Fault.Memory) }
