@@ -27,14 +27,25 @@ fn files(alloc: Global, scale: &str, input: &[u8]) -> Result<MemFiles, Fail> {
     Ok(files)
 }
 
-/// A header chunk, and a track chunk of each content.
+/// A header chunk with a division of 480, and a track chunk of each content.
 fn file(alloc: Global, format: u8, tracks: u8, contents: &[&[u8]]) -> Result<Vec<u8>, Fail> {
+    file_divided(alloc, format, tracks, [0x01, 0xe0], contents)
+}
+
+/// A header chunk, and a track chunk of each content.
+fn file_divided(
+    alloc: Global,
+    format: u8,
+    tracks: u8,
+    division: [u8; 2],
+    contents: &[&[u8]],
+) -> Result<Vec<u8>, Fail> {
     let mut bytes = Vec::new(alloc);
     bytes.extend_from_slice(b"MThd\x00\x00\x00\x06\x00")?;
     bytes.push(format)?;
     bytes.push(0)?;
     bytes.push(tracks)?;
-    bytes.extend_from_slice(b"\x01\xe0")?;
+    bytes.extend_from_slice(&division)?;
     for content in contents {
         bytes.extend_from_slice(b"MTrk\x00\x00")?;
         bytes.push((content.len() / 256 % 256) as u8)?;
@@ -213,7 +224,9 @@ fn fifths_are_dumped(rt: HostRuntime) -> Result<(), Fail> {
 
 #[test]
 fn cut_inputs_are_refused(rt: HostRuntime) -> Result<(), Fail> {
-    let cases: [(&[u8], u32, SmfKind, &str); 4] = [
+    let cases: [(&[u8], u32, SmfKind, &str); 5] = [
+        // before the first byte
+        (&[], 0, SmfKind::NotMidi, "0 kind 1"),
         // in the word that begins a file
         (&ONE_NOTE[..3], 0, SmfKind::NotMidi, "0 kind 1"),
         // in the header
@@ -262,6 +275,22 @@ fn broken_tracks_are_refused(rt: HostRuntime) -> Result<(), Fail> {
 }
 
 #[test]
+fn formats_above_1_are_refused(rt: HostRuntime) -> Result<(), Fail> {
+    let cases: [(u8, SmfKind, &str); 2] = [
+        (2, SmfKind::Format2, "8 kind 3"),
+        (3, SmfKind::FormatNumber, "8 kind 4"),
+    ];
+    let alloc = rt.alloc();
+    for (format, kind, rest) in cases {
+        let input = file(alloc, format, 1, &[b"\x00\xff\x2f\x00"])?;
+        let fault = Fault::Smf { offset: 8, kind };
+        let line = ["mtune: input byte ", rest];
+        check_refused(&rt, alloc, E12, input.as_slice(), &WORDS, fault, 2, line)?;
+    }
+    Ok(())
+}
+
+#[test]
 fn broken_scales_are_refused(rt: HostRuntime) -> Result<(), Fail> {
     let cases: [(&str, u32, SclKind, &str); 4] = [
         ("", 1, SclKind::NoDescription, "1 kind 1"),
@@ -276,6 +305,44 @@ fn broken_scales_are_refused(rt: HostRuntime) -> Result<(), Fail> {
         let line = ["mtune: scale line ", rest];
         check_refused(&rt, alloc, scale, &ONE_NOTE, &WORDS, fault, 2, line)?;
     }
+    Ok(())
+}
+
+/// So many bytes, all of them blanks.
+fn blanks(alloc: Global, count: u32) -> Result<Vec<u8>, Fail> {
+    let mut bytes = Vec::new(alloc);
+    for _ in 0..count / 256 {
+        bytes.extend_from_slice(&[b' '; 256])?;
+    }
+    for _ in 0..count % 256 {
+        bytes.push(b' ')?;
+    }
+    Ok(bytes)
+}
+
+#[test]
+fn contents_of_a_byte_too_many_are_refused(rt: HostRuntime) -> Result<(), Fail> {
+    let alloc = rt.alloc();
+    let long = blanks(alloc, 4_194_305)?;
+    let mut files = files(alloc, E12, long.as_slice())?;
+    let outcome = run(alloc, WORDS.as_slice(), &mut files);
+    let fault = Fault::TooLong {
+        which: Which::Input,
+    };
+    let said = "mtune: too long input\n";
+    check(&rt, &files, outcome, Some(fault), 2, said, None);
+    files.add("e12.scl", &long.as_slice()[..262_145])?;
+    let outcome = run(alloc, WORDS.as_slice(), &mut files);
+    let fault = Fault::TooLong {
+        which: Which::Scale,
+    };
+    let said = "mtune: too long input\nmtune: too long scale\n";
+    check(&rt, &files, outcome, Some(fault), 2, said, None);
+    // a content at the limit is read: a description and no count
+    files.add("e12.scl", &long.as_slice()[..262_144])?;
+    let outcome = run(alloc, WORDS.as_slice(), &mut files);
+    let kind = SclKind::NoCount;
+    assert!(rt; outcome.fault == Some(Fault::Scl { line: 2, kind }));
     Ok(())
 }
 
@@ -320,7 +387,14 @@ fn output_takes_the_place_of_the_input(rt: HostRuntime) -> Result<(), Fail> {
     let outcome = run(alloc, words.as_slice(), &mut files);
     let said = "route dump\nnotes 1\nchannels 1\n";
     check(&rt, &files, outcome, None, 0, said, None);
-    assert!(rt; files.content("in.mid") == Some(one_note_output(alloc)?.as_slice()));
+    let output = one_note_output(alloc)?;
+    assert!(rt; files.content("in.mid") == Some(output.as_slice()));
+    // an output isn't taken as an input yet: it tells a tuning
+    let outcome = run(alloc, words.as_slice(), &mut files);
+    let fault = Fault::NotYet { kind: 2 };
+    let said = "route dump\nnotes 1\nchannels 1\nmtune: not yet 2\n";
+    check(&rt, &files, outcome, Some(fault), 2, said, None);
+    assert!(rt; files.content("in.mid") == Some(output.as_slice()));
     Ok(())
 }
 
@@ -328,43 +402,63 @@ fn load(which: Which) -> Fault {
     Fault::Load { which }
 }
 
+/// The counts of failed loads of the scale, of the mapping and of the input, of stores, and of says.
+fn counts(files: &MemFiles) -> [u64; 5] {
+    [
+        files.count(0),
+        files.count(1),
+        files.count(2),
+        files.count(3),
+        files.count(4),
+    ]
+}
+
 #[test]
 fn calls_that_fail(rt: HostRuntime) -> Result<(), Fail> {
     let alloc = rt.alloc();
     let output = one_note_output(alloc)?;
     let old = b"old".as_slice();
-    let cases: [(u32, Fault, &str, &[u8]); 4] = [
-        (1, load(Which::Scale), "mtune: cannot load scale\n", old),
-        (2, load(Which::Input), "mtune: cannot load input\n", old),
-        (3, Fault::Store, "mtune: cannot store\n", old),
-        // the report
-        (4, Fault::Say, "", output.as_slice()),
+    let scale = "mtune: cannot load scale\n";
+    let input = "mtune: cannot load input\n";
+    let store = "mtune: cannot store\n";
+    // the calls load the scale, load the input, store, and say; where a call fails, the next says the fault's line
+    let cases: [(&[u32], Fault, &str, &[u8], [u64; 5]); 7] = [
+        (&[1], load(Which::Scale), scale, old, [1, 0, 0, 0, 0]),
+        (&[1, 2], load(Which::Scale), "", old, [1, 0, 0, 0, 1]),
+        (&[2], load(Which::Input), input, old, [0, 0, 1, 0, 0]),
+        (&[2, 3], load(Which::Input), "", old, [0, 0, 1, 0, 1]),
+        (&[3], Fault::Store, store, old, [0, 0, 0, 1, 0]),
+        (&[3, 4], Fault::Store, "", old, [0, 0, 0, 1, 1]),
+        // nothing is said after a report that failed
+        (&[4, 5], Fault::Say, "", output.as_slice(), [0, 0, 0, 0, 1]),
     ];
-    for (call, fault, said, held) in cases {
+    for (calls, fault, said, held, counted) in cases {
         let mut files = files(alloc, E12, &ONE_NOTE)?;
         files.add("out.mid", old)?;
-        files.fail(call)?;
+        for call in calls {
+            files.fail(*call)?;
+        }
         let outcome = run(alloc, WORDS.as_slice(), &mut files);
         check(&rt, &files, outcome, Some(fault), 3, said, Some(held));
-        assert_eq!(rt; files.count(0), u64::from(call == 1));
-        assert_eq!(rt; files.count(2), u64::from(call == 2));
-        assert_eq!(rt; files.count(3), u64::from(call == 3));
-        assert_eq!(rt; files.count(4), u64::from(call == 4));
+        assert_eq!(rt; counts(&files), counted);
     }
     Ok(())
 }
 
 #[test]
-fn fault_that_cannot_be_said(rt: HostRuntime) -> Result<(), Fail> {
+fn names_that_nothing_is_held_under(rt: HostRuntime) -> Result<(), Fail> {
     let alloc = rt.alloc();
-    // no scale is held, and the line that says so fails
     let mut files = MemFiles::new(alloc);
-    files.fail(2)?;
     let outcome = run(alloc, WORDS.as_slice(), &mut files);
     let fault = load(Which::Scale);
-    check(&rt, &files, outcome, Some(fault), 3, "", None);
-    assert_eq!(rt; files.count(0), 1);
-    assert_eq!(rt; files.count(4), 1);
+    let said = "mtune: cannot load scale\n";
+    check(&rt, &files, outcome, Some(fault), 3, said, None);
+    files.add("e12.scl", E12.as_bytes())?;
+    let outcome = run(alloc, WORDS.as_slice(), &mut files);
+    let fault = load(Which::Input);
+    let said = "mtune: cannot load scale\nmtune: cannot load input\n";
+    check(&rt, &files, outcome, Some(fault), 3, said, None);
+    assert_eq!(rt; counts(&files), [1, 0, 1, 0, 0]);
     Ok(())
 }
 
@@ -372,23 +466,30 @@ fn fault_that_cannot_be_said(rt: HostRuntime) -> Result<(), Fail> {
 fn pieces_without_retuned_notes_stay(rt: HostRuntime) -> Result<(), Fail> {
     let alloc = rt.alloc();
     // an end of track alone; notes of the drums alone; a delta time in more bytes than it needs; the last tick
-    let rows: [(&[u8], &[u8]); 4] = [
-        (b"\x00\xff\x2f\x00", b"\x00\xff\x2f\x00"),
+    let rows: [([u8; 2], &[u8], &[u8]); 4] = [
+        // a division of 96
+        ([0x00, 0x60], b"\x00\xff\x2f\x00", b"\x00\xff\x2f\x00"),
         (
+            [0x01, 0xe0],
             b"\x00\x99\x24\x40\x00\x24\x40\x60\x24\x00\x00\x24\x00\x00\xff\x2f\x00",
             b"\x00\x99\x24\x40\x00\x24\x40\x60\x24\x00\x00\x24\x00\x00\xff\x2f\x00",
         ),
-        (b"\x80\x80\x00\xff\x2f\x00", b"\x00\xff\x2f\x00"),
         (
+            [0x01, 0xe0],
+            b"\x80\x80\x00\xff\x2f\x00",
+            b"\x00\xff\x2f\x00",
+        ),
+        (
+            [0x01, 0xe0],
             b"\xff\xff\xff\x7f\xff\x2f\x00",
             b"\xff\xff\xff\x7f\xff\x2f\x00",
         ),
     ];
-    for (content, wanted) in rows {
-        let input = file(alloc, 0, 1, &[content])?;
+    for (division, content, wanted) in rows {
+        let input = file_divided(alloc, 0, 1, division, &[content])?;
         let mut files = files(alloc, E12, input.as_slice())?;
         let outcome = run(alloc, WORDS.as_slice(), &mut files);
-        let output = file(alloc, 0, 1, &[wanted])?;
+        let output = file_divided(alloc, 0, 1, division, &[wanted])?;
         let said = "route dump\nnotes 0\nchannels 0\n";
         check(&rt, &files, outcome, None, 0, said, Some(output.as_slice()));
     }
