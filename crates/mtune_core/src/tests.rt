@@ -331,7 +331,7 @@ fn contents_of_a_byte_too_many_are_refused(rt: HostRuntime) -> Result<(), Fail> 
     };
     let said = "mtune: too long input\n";
     check(&rt, &files, outcome, Some(fault), 2, said, None);
-    files.add("e12.scl", &long.as_slice()[..262_145])?;
+    files.add("e12.scl", blanks(alloc, 262_145)?.as_slice())?;
     let outcome = run(alloc, WORDS.as_slice(), &mut files);
     let fault = Fault::TooLong {
         which: Which::Scale,
@@ -339,7 +339,7 @@ fn contents_of_a_byte_too_many_are_refused(rt: HostRuntime) -> Result<(), Fail> 
     let said = "mtune: too long input\nmtune: too long scale\n";
     check(&rt, &files, outcome, Some(fault), 2, said, None);
     // a content at the limit is read: a description and no count
-    files.add("e12.scl", &long.as_slice()[..262_144])?;
+    files.add("e12.scl", blanks(alloc, 262_144)?.as_slice())?;
     let outcome = run(alloc, WORDS.as_slice(), &mut files);
     let kind = SclKind::NoCount;
     assert!(rt; outcome.fault == Some(Fault::Scl { line: 2, kind }));
