@@ -9,7 +9,6 @@ use Rattle.scl_text.specs.Spelling.{ScaleText, ScaleFault}
 use Rattle.midi_model.specs.declared.fault.SmfKind.{SmfKind}
 use Rattle.midi_model.specs.FileText.{MidiFile}
 use Rattle.midi_model.specs.Faults.{FirstFault}
-use Rattle.midi_model.specs.Merged.{merged}
 use Rattle.midi_model.specs.Spelling.{Spells}
 use Rattle.retune_model.specs.Scale.{a440_mapping, term_count}
 use Rattle.retune_model.specs.Table.{IsTable}

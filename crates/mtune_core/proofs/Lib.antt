@@ -11,3 +11,4 @@ pub mod PlaysSame
 pub mod Retuned
 pub mod Ended
 pub mod Accepting
+pub mod Reach

@@ -1,10 +1,11 @@
 -- What is asked of the words and the contents, so that the call has no reason to refuse them.
-use Rattle.std.specs.Prelude.{ℕ, ◌≡◌, ◌<◌, ◌≤◌, List, length, true, Option, Some, is_some}
+use Rattle.std.specs.Prelude.{ℕ, ◌≡◌, ◌<◌, ◌≤◌, pos, List, length, true, Option, Some, is_some}
+use Rattle.mt_base.specs.Pitch.{Pitch, IsPitch, AtLeast, AtMost}
 use Rattle.scl_text.specs.declared.entry.Entry.{Entry}
 use Rattle.midi_model.specs.FileText.{MidiFile}
 use Rattle.midi_model.specs.Merged.{merged}
 use Rattle.midi_model.specs.Spelling.{Spells}
-use Rattle.retune_model.specs.Table.{IsTable}
+use Rattle.retune_model.specs.Table.{IsTable, pitch_at}
 use Rattle.retune_model.specs.Faults.{Targets}
 use Rattle.retune_model.specs.Dump.{tuning_at}
 use Rattle.mtune_files.specs.declared.which.Which.{Which}
@@ -18,6 +19,18 @@ use Rattle.mtune_core.specs.Command.{Command, command_of}
 abbrev pub ArePlayable : List Entry → MidiFile → Type 0
 ArePlayable entries source =
     (table : Targets) → IsTable (scaling_of entries) table → (key : ℕ) → key < 128 → uses_key key (merged source) ≡ true → is_some (tuning_at table key) ≡ true
+
+-- the scale pitch of a key is from 0 to 12,700 cents, of 32,000,000,000 grains each
+pub record IsInReach (entries : List Entry) (key : ℕ) : Type 0 where
+  pub pitch : Pitch
+  pub is_pitch : IsPitch pitch
+  pub of_key : pitch_at (scaling_of entries) key 0 ≡ Some pitch
+  pub least : AtLeast pitch (pos 0)
+  pub most : AtMost pitch (pos 406400000000000)
+
+-- so it is for each key that a retuned part has a note on of
+abbrev pub AreInReach : List Entry → MidiFile → Type 0
+AreInReach entries source = (key : ℕ) → key < 128 → uses_key key (merged source) ≡ true → IsInReach entries key
 
 -- The words are those of a command, and it is told what is held. At the scale's name stands a text that is a scale, of which
 -- each key has few enough terms; at the input's stand bytes that spell a file, whose events are taken and whose keys have targets.

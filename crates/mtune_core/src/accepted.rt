@@ -1,11 +1,16 @@
 ghost use Rattle.std.specs.Prelude.{◌≡◌, ℕ, List, Bool, Option};
 ghost use Rattle.mtune_files.specs.Names.{Held};
 ghost use Rattle.mtune_files.specs.Faults.{Faults};
-ghost use Rattle.mtune_core.specs.Accepted.{IsAccepted, NoneRose};
+ghost use Rattle.midi_model.specs.FileText.{MidiFile};
+ghost use Rattle.retune_model.specs.Table.{AreFewTerms};
+ghost use Rattle.scl_text.specs.declared.entry.Entry.{Entry};
+ghost use Rattle.mtune_core.specs.Accepted.{IsAccepted, NoneRose, AreInReach, ArePlayable};
 ghost use Rattle.mtune_core.specs.Call.{IsRefused};
+ghost use Rattle.mtune_core.specs.Causes.{scaling_of};
 ghost use Rattle.mtune_core.specs.declared.outcome.Fault.{Fault};
 
 use midi_model::file_laws;
+use mt_base::laws::ends;
 use scl_text::one_answer;
 
 /// Where the words and the contents are accepted and no count rose, no fault but want of memory has
@@ -16,4 +21,12 @@ pub fn accepted_has_no_fault()
 {
     one_answer();
     file_laws();
+}
+
+/// Keys whose scale pitches are from 0 to 12,700 cents have targets, whichever table of the scale is
+/// taken.
+pub fn keys_in_reach_are_playable()
+    ensures { (entries : List Entry) (source : MidiFile) → AreFewTerms (scaling_of entries) → AreInReach entries source → ArePlayable entries source }
+{
+    ends();
 }

@@ -14,6 +14,7 @@ mod survey;
 mod targets;
 mod words;
 
+pub use accepted::keys_in_reach_are_playable;
 pub use call::run;
 pub use outcome::{Fault, Outcome};
 

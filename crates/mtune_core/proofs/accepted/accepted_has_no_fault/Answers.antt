@@ -1,4 +1,4 @@
-use Rattle.mtune_core.proofs.Accepting.{OneAnswer, accepted_is_not_refused}
+use Rattle.mtune_core.proofs.Accepting.{accepted_is_not_refused}
 use Rattle.mtune_core.proofs.accepted.accepted_has_no_fault.Goals as goal
 
 pub returns : goal.returns
