@@ -1,9 +1,10 @@
 -- Bytes of seven bits.
-use Rattle.std.proofs.Common.{◌≡◌, ℕ, zero, suc, ◌≤◌, List, [], ◌∷◌, Bool, true, false, cond, ◌&&◌, nat_eq, nat_lt, get_or, set, refl, arith}
+use Rattle.std.proofs.Common.{◌≡◌, ℕ, zero, suc, ◌<◌, ◌≤◌, if◌then◌else◌, length, replicate, slice_index, List, [], ◌∷◌, Bool, true, false, cond, ◌&&◌, nat_eq, nat_lt, get_or, set, refl, ap, ◌∙◌, arith}
 use Rattle.std.specs.List.{AllByRecursion}
 use Rattle.std.proofs.lemmas.Bool.{ltb-true, lt-ltb}
 use Rattle.midi_model.specs.Params.{Parameter, Entry, rank, value_of, put, rpn, counts}
 use Rattle.receiver.specs.Kept.{is_low_value, is_other, are_others, are_low, are_low_pairs}
+use Rattle.receiver.specs.Notes.{has}
 use Rattle.receiver.specs.State.{params_of}
 use Rattle.receiver.proofs.Tidy.{left, right, both, each_put}
 
@@ -16,6 +17,32 @@ pub low_at : (xs : List ℕ) (i : ℕ) → are_low xs ≡ true → get_or xs i 0
 low_at [] i a = omega arith
 low_at (x ∷ xs) zero a = let h = ltb-true x 128 (left (nat_lt x 128) (are_low xs) a) in omega (arith, h)
 low_at (x ∷ xs) (suc i) a = low_at xs i (right (nat_lt x 128) (are_low xs) a)
+
+pub low_from : (xs : List ℕ) → ((k : ℕ) → k < length xs → slice_index xs k ≤ 127) → are_low xs ≡ true
+low_from [] h = refl
+low_from (x ∷ xs) h =
+    let one = h 0 (omega arith) in
+    both (nat_lt x 128) (are_low xs) (lt-ltb x 128 (omega (arith, one))) (low_from xs (λ k below. h (suc k) (omega (arith, below))))
+
+-- zeros among them
+pub zero_of : (n k : ℕ) → slice_index (replicate n 0) k ≡ 0
+zero_of zero k = refl
+zero_of (suc n) zero = refl
+zero_of (suc n) (suc k) = zero_of n k
+
+-- entries that go back to a default of 0
+pub over_zero : (which : ℕ) (base old new : List ℕ) → base ≡ replicate 128 0
+    → ((k : ℕ) → k < 128 → slice_index new k ≡ (if has which k then slice_index base k else slice_index old k))
+    → (k : ℕ) → k < 128 → slice_index new k ≡ (if has which k then 0 else slice_index old k)
+over_zero which base old new e h k below = h k below ∙ ap (λ d. if has which k then d else slice_index old k) (ap (λ ds. slice_index ds k) e ∙ zero_of 128 k)
+
+pub relaxed : (which : ℕ) (old new : List ℕ) → length new ≡ 128
+    → ((k : ℕ) → k < 128 → slice_index new k ≡ (if has which k then 0 else slice_index old k)) → are_low old ≡ true → are_low new ≡ true
+relaxed which old new full h a = low_from new (λ k below. pick (has which k) (slice_index new k) (slice_index old k) (h k (omega (arith, full, below))) (low_at old k a))
+  where
+    pick : (b : Bool) (x y : ℕ) → x ≡ (if b then 0 else y) → y ≤ 127 → x ≤ 127
+    pick true x y e l = omega (arith, e)
+    pick false x y e l = omega (arith, e, l)
 
 abbrev pub is_low_pair : ℕ × ℕ → Bool
 is_low_pair p = nat_lt p.0 128 && nat_lt p.1 128

@@ -2,3 +2,10 @@ pub mod Params
 pub mod Kept
 pub mod Roles
 pub mod State
+pub mod Sounding
+pub mod Turns
+pub mod Notes
+pub mod Heard
+pub mod Zones
+pub mod Tunings
+pub mod Stands

@@ -1,5 +1,5 @@
 -- What a channel's state, as the program keeps it, stands for.
-use Rattle.std.specs.Prelude.{ℕ, List, Option, Some, length, get_or, filter}
+use Rattle.std.specs.Prelude.{ℕ, List, Option, Some, get_or}
 use Rattle.mt_base.specs.declared.event.Msg.{Msg}
 use Rattle.mt_base.specs.declared.event.Msg.TheVariants.{Control}
 use Rattle.midi_model.specs.Params.{Entry, rpn, put}

@@ -2,12 +2,24 @@
 //! here takes memory.
 #![tactic(auto)]
 
+mod ends;
+mod keys;
+mod note;
 mod others;
 mod param;
+mod pitch;
+mod playing;
+mod receiver;
 mod role;
 mod state;
 #[cfg(test)]
 mod tests;
+mod tunings;
+mod turn;
+mod zones;
 
+pub use ends::Ends;
+pub use note::Note;
 pub use param::Param;
+pub use receiver::Receiver;
 pub use state::{ChannelState, Voice};

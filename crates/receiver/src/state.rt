@@ -1,4 +1,4 @@
-ghost use Rattle.std.specs.Prelude.{◌≡◌, ◌≢◌, ◌≤◌, ◌<◌, ◌↔◌, ℕ, Some, None, IsTrue, length, true, replicate, slice_index, get_or};
+ghost use Rattle.std.specs.Prelude.{◌≡◌, ◌≢◌, ◌≤◌, ◌<◌, ◌↔◌, ℕ, Some, None, IsTrue, length, true, replicate, slice_index, slice_set, get_or, if◌then◌else◌};
 ghost use Rattle.midi_model.specs.Channel.{default_controls};
 ghost use Rattle.receiver.specs.Params.{entries_of};
 ghost use Rattle.receiver.specs.Kept.{is_canonical, are_others, are_low, are_low_pairs, is_apart};
@@ -64,6 +64,8 @@ impl ChannelState {
     ghost use Rattle.mt_base.specs.Valid.{IsValidMsg};
     ghost use Rattle.midi_model.specs.Params.{rank, put, value_of};
     ghost use Rattle.midi_model.specs.Channel.{default_channel, counted, apply, role, target, with_high, with_low, controlled, ResetControllers};
+    ghost use Rattle.midi_model.specs.Zones.{bend_range};
+    ghost use Rattle.receiver.specs.Notes.{has};
     ghost use Rattle.receiver.specs.Params.{numbered, parameter_of};
     ghost use Rattle.receiver.specs.Roles.{target_of, HasValue};
     ghost use Rattle.receiver.specs.State.{own_of, params_of, program_after, program_by, program_chosen};
@@ -90,7 +92,7 @@ impl ChannelState {
     }
 
     /// What data entry writes to now.
-    fn target(&self) -> Selected
+    pub(crate) fn target(&self) -> Selected
         ensures target { target_of result ≡ target (own_of self.now).selection }
         ensures value { HasValue result }
     {
@@ -121,7 +123,7 @@ impl ChannelState {
     }
 
     /// The value of a parameter, in bytes of seven bits.
-    fn value(&self, registered: bool, high: u8, low: u8) -> (u8, u8)
+    pub(crate) fn value(&self, registered: bool, high: u8, low: u8) -> (u8, u8)
         ensures value { result ≡ value_of (own_of self.now).params (numbered registered high low) }
         ensures high { result.0 ≤ 127 }
         ensures low { result.1 ≤ 127 }
@@ -380,6 +382,42 @@ impl ChannelState {
             };
         }
         self.is_within_limit()
+    }
+
+    /// The pressure of a key.
+    pub(crate) fn press(&mut self, key: u8, value: u8)
+        requires key { key < 128 }
+        requires value { value ≤ 127 }
+        ensures own { own_of self.new ≡ own_of self.old }
+        ensures keys { self.new.keys.items ≡ slice_set self.old.keys.items key value }
+        ensures length { length self.new.keys.items ≡ 128 }
+        ensures tuning { self.new.tuning ≡ self.old.tuning }
+    {
+        self.keys.set(key as usize, value);
+    }
+
+    /// The pressures of these keys are 0. Bit k of the mask stands for key k.
+    pub(crate) fn relax(&mut self, which: u128)
+        ensures own { own_of self.new ≡ own_of self.old }
+        ensures keys { (k : ℕ) → k < 128 → slice_index self.new.keys.items k ≡ (if has which k then 0 else slice_index self.old.keys.items k) }
+        ensures tuning { self.new.tuning ≡ self.old.tuning }
+    {
+        self.keys.reset(which);
+    }
+
+    /// The bend sensitivity in semitones, RPN 0.
+    pub(crate) fn bend_range(&mut self, semitones: u8)
+        requires { semitones ≤ 127 }
+        ensures own { own_of self.new ≡ bend_range semitones (own_of self.old) }
+        ensures keys { self.new.keys ≡ self.old.keys }
+        ensures tuning { self.new.tuning ≡ self.old.tuning }
+    {
+        self.set_apart(Param {
+            registered: true,
+            high: 0,
+            low: 0,
+            value: (semitones, 0),
+        });
     }
 
     /// An equal state.

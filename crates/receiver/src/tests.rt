@@ -1,6 +1,11 @@
 ghost use Rattle.std.specs.Prelude.{◌≡◌, ◌≤◌};
 ghost use Rattle.mt_base.specs.declared.event.Msg.TheVariants.{Control};
 
+mod cases;
+mod player;
+mod random;
+mod slow;
+
 use crate::ChannelState;
 use mt_base::{Channel, Msg};
 

@@ -1,10 +1,9 @@
 use Rattle.std.proofs.Common.{◌≡◌, ℕ, zero, suc, ◌<◌, ◌≤◌, ◌+◌, ◌-◌, ◌/◌, ◌^◌, max, List, slice_index, refl, sym, ◌∙◌, ap, arith, bit_or, add-one}
 use Rattle.std.specs.Int.{bit_at, trailing_zeros, w128}
-use Rattle.std.specs.Int.Count.{trailing_of_zero}
-use Rattle.std.proofs.lemmas.Nat.Bits.{bit_at_or, bit_at-trailing_zeros}
+use Rattle.std.proofs.lemmas.Nat.Bits.{bit_at_or}
 use Rattle.std.proofs.lemmas.Nat.{or_lt, shr_le}
 use Rattle.tab.specs.Entries.{Entries, differs, away}
-use Rattle.tab.proofs.Masks.{Tells, zeros_below, bit_at-shr}
+use Rattle.tab.proofs.Masks.{Tells, zeros_below, found_bit, bit_at-shr}
 
 -- what one place adds
 abbrev pub weight : List ℕ → Entries → ℕ → ℕ
@@ -35,10 +34,6 @@ away_skip n m1 m2 one two f1 f2 h1 h2 i d inside upto = away_flat one two i d (�
     let small : bit_or m1 m2 / 2 ^ i < 2 ^ 128 = omega (arith, or_lt 128 m1 m2 f1 f2, shr_le (bit_or m1 m2) i) in
     let z : bit_at (bit_or m1 m2) (i + (k - i)) ≡ 0 = sym (bit_at-shr (bit_or m1 m2) i (k - i)) ∙ zeros_below _ (k - i) small (omega (arith, low, high, upto)) in
     sym (joined n m1 m2 one two h1 h2 k (omega (arith, high, inside))) ∙ rw at at z)
-
-found_bit : (n : ℕ) → n < 2 ^ 128 → trailing_zeros w128 n < 128 → bit_at n (trailing_zeros w128 n) ≡ 1
-found_bit zero small few = let none : trailing_zeros w128 0 ≡ 128 = trailing_of_zero 128 in absurd (omega (arith, few, none))
-found_bit (suc n) small few = (bit_at-trailing_zeros w128 (suc n) (omega arith) small).1
 
 -- and the place of that bit counts
 pub away_found : (n m1 m2 : ℕ) (one : List ℕ) (two : Entries) → m1 < 2 ^ 128 → m2 < 2 ^ 128 → Tells n m1 two.defaults one → Tells n m2 two.defaults two.items

@@ -8,6 +8,7 @@ use Rattle.std.proofs.lemmas.Nat.Bits.{bit_at-zero, bit_at-trailing_zeros, bit_a
 use Rattle.std.proofs.Math.Nat.{div-div-eq-div-mul}
 use Rattle.std.proofs.lemmas.Nat.{pow-add, or_lt, shr_le}
 use Rattle.std.specs.Int.{trailing_zeros}
+use Rattle.std.specs.Int.Count.{trailing_of_zero}
 use Rattle.tab.specs.Entries.{differs}
 
 pub same_differs : (a b : ℕ) → a ≡ b → differs a b ≡ 0
@@ -47,6 +48,10 @@ tells_set n mask place value base now small inside full other h i below =
 pub zeros_below : (n k : ℕ) → n < 2 ^ 128 → k < trailing_zeros w128 n → bit_at n k ≡ 0
 zeros_below zero k h below = bit_at-zero k
 zeros_below (suc n) k h below = (bit_at-trailing_zeros w128 (suc n) (omega arith) h).2 k below
+
+pub found_bit : (n : ℕ) → n < 2 ^ 128 → trailing_zeros w128 n < 128 → bit_at n (trailing_zeros w128 n) ≡ 1
+found_bit zero small few = let none : trailing_zeros w128 0 ≡ 128 = trailing_of_zero 128 in absurd (omega (arith, few, none))
+found_bit (suc n) small few = (bit_at-trailing_zeros w128 (suc n) (omega arith) small).1
 
 pub bit_at-shr : (n i j : ℕ) → bit_at (n / 2 ^ i) j ≡ bit_at n (i + j)
 bit_at-shr n i j = rw (div-div-eq-div-mul n (2 ^ i) (2 ^ j), ← pow-add 2 i j) refl

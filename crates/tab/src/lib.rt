@@ -2,7 +2,8 @@
 //! from these.
 #![tactic(auto)]
 
-ghost use Rattle.std.specs.Prelude.{◌≡◌, ◌<◌, ◌≤◌, ◌≢◌, ◌+◌, length, slice_index, slice_set, IfSome, IfNone, ℕ};
+ghost use Rattle.std.specs.Prelude.{◌≡◌, ◌<◌, ◌≤◌, ◌≢◌, ◌+◌, length, slice_index, slice_set, IfSome, IfNone, ℕ, nat_eq, if◌then◌else◌};
+ghost use Rattle.std.specs.Int.{bit_at};
 ghost use Rattle.tab.specs.Entries.{away};
 
 use std::marker::Model;
@@ -76,6 +77,7 @@ impl<const N: usize> Tab<N> {
     pub fn set(&mut self, place: usize, value: u8)
         requires { place < N }
         ensures items { self.new.items ≡ slice_set self.old.items place value }
+        ensures length { length self.new.items ≡ N }
         ensures defaults { self.new.defaults ≡ self.old.defaults }
     {
         self.items[place] = value;
@@ -138,6 +140,27 @@ impl<const N: usize> Tab<N> {
             place: None,
             looked,
         }
+    }
+
+    /// Gives the entries of these places their defaults: bit i of the mask stands for place i. It touches
+    /// only entries that differ.
+    pub fn reset(&mut self, which: u128)
+        ensures items { (i : ℕ) → i < N → slice_index self.new.items i ≡ (if nat_eq (bit_at which i) 1 then slice_index self.old.defaults i else slice_index self.old.items i) }
+        ensures length { length self.new.items ≡ N }
+        ensures defaults { self.new.defaults ≡ self.old.defaults }
+    {
+        let away = self.mask & which;
+        let mut i = 0;
+        while i < N {
+            let skip = (away >> i as u32).trailing_zeros() as usize;
+            if skip >= N - i {
+                break;
+            }
+            i += skip;
+            self.items[i] = self.base[i];
+            i += 1;
+        }
+        self.mask &= !which;
     }
 
     /// Takes over the entries of another table over the same defaults.

@@ -30,6 +30,25 @@ fn a_table_of_keys_and_one_of_controllers(rt: HostRuntime) {
 }
 
 #[test]
+fn only_the_places_of_the_mask_go_back_to_their_defaults(rt: HostRuntime) {
+    let mut table = Tab::<120>::new([64; 120]);
+    table.set(0, 1);
+    table.set(7, 100);
+    table.set(119, 127);
+    table.reset(1 | 1 << 64 | 1 << 119 | 1 << 127);
+    assert_eq!(rt; table.get(0), 64);
+    assert_eq!(rt; table.get(7), 100);
+    assert_eq!(rt; table.get(64), 64);
+    assert_eq!(rt; table.get(119), 64);
+    assert_eq!(rt;
+        table.next_difference(&Tab::<120>::new([64; 120]), 0),
+        Some(7)
+    );
+    table.reset(u128::MAX);
+    assert_eq!(rt; table.next_difference(&Tab::<120>::new([64; 120]), 0), None);
+}
+
+#[test]
 fn tables_that_differ_in_one_entry_are_compared_in_a_few_steps(rt: HostRuntime) {
     let fresh = Tab::<128>::new([0; 128]);
     let mut held = fresh.copy();

@@ -1,0 +1,16 @@
+use Rattle.std.proofs.Common.{rules, refl}
+use Rattle.receiver.proofs.Here.{map_same}
+use Rattle.receiver.proofs.Actions.{pressing}
+use Rattle.receiver.proofs.receiver.Receiver.press.Goals as goal
+
+pub returns-clause-notes : goal.returns-clause-notes
+returns-clause-notes c d k dl kl = pressing _ c.args.channel c.args.key c.args.value _ c.index-self-channel.result (search rules) c.press.ensures.heard d k kl
+
+pub returns-clause-rest : goal.returns-clause-rest
+returns-clause-rest c = record {
+  states = map_same _ _ c.args.channel _ c.index-self-channel.result c.press.ensures.own;
+  selected = map_same _ _ c.args.channel _ c.index-self-channel.result c.press.ensures.tuning;
+  zones = refl;
+  begun = refl;
+  tunings = refl;
+}

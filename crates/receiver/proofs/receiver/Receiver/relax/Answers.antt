@@ -1,0 +1,16 @@
+use Rattle.std.proofs.Common.{rules, refl}
+use Rattle.receiver.proofs.Here.{map_same}
+use Rattle.receiver.proofs.Actions.{relaxed}
+use Rattle.receiver.proofs.receiver.Receiver.relax.Goals as goal
+
+pub returns-clause-notes : goal.returns-clause-notes
+returns-clause-notes c d k dl kl = relaxed _ c.args.channel _ c.index-self-channel.result (search rules) c.relax.ensures.heard d k kl
+
+pub returns-clause-rest : goal.returns-clause-rest
+returns-clause-rest c = record {
+  states = map_same _ _ c.args.channel _ c.index-self-channel.result c.relax.ensures.own;
+  selected = map_same _ _ c.args.channel _ c.index-self-channel.result c.relax.ensures.tuning;
+  zones = refl;
+  begun = refl;
+  tunings = refl;
+}

@@ -1,0 +1,16 @@
+use Rattle.std.proofs.Common.{rules, refl}
+use Rattle.receiver.proofs.Here.{map_same}
+use Rattle.receiver.proofs.Actions.{released}
+use Rattle.receiver.proofs.receiver.Receiver.release.Goals as goal
+
+pub returns-clause-notes : goal.returns-clause-notes
+returns-clause-notes c d k dl kl = released _ c.args.channel c.args.key c.args.tick c.args.velocity _ c.index-self-channel.result (search rules) c.release.ensures.heard d k kl
+
+pub returns-clause-rest : goal.returns-clause-rest
+returns-clause-rest c = record {
+  states = map_same _ _ c.args.channel _ c.index-self-channel.result c.release.ensures.own;
+  selected = map_same _ _ c.args.channel _ c.index-self-channel.result c.release.ensures.tuning;
+  zones = refl;
+  begun = refl;
+  tunings = refl;
+}
