@@ -4,6 +4,7 @@
 
 mod ends;
 mod keys;
+mod laws;
 mod note;
 mod others;
 mod param;
@@ -19,6 +20,7 @@ mod turn;
 mod zones;
 
 pub use ends::Ends;
+pub use laws::no_more_notes_than_events;
 pub use note::Note;
 pub use param::Param;
 pub use receiver::Receiver;

@@ -5,6 +5,7 @@ mod cases;
 mod player;
 mod random;
 mod slow;
+mod tuned;
 
 use crate::ChannelState;
 use mt_base::{Channel, Msg};

@@ -205,8 +205,12 @@ fn are_set_the_same(receiver: &Receiver, slow: &Slow) -> bool {
 
 /// Plays one event on both, and tells whether they agree in what ends, what sounds and what is set.
 fn play_alike(player: &mut Player, slow: &mut Slow, tick: u32, said: Said) -> Result<bool, Fail> {
-    let what = what_of(said).ok_or("no event")?;
-    let ends = player.take(tick, &what).ok_or("no room")?;
+    let Some(what) = what_of(said) else {
+        return Ok(false);
+    };
+    let Some(ends) = player.take(tick, &what) else {
+        return Ok(false);
+    };
     slow.step(tick, &what)?;
     Ok(
         ends.keys == slow.ends()

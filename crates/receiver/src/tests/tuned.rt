@@ -1,0 +1,223 @@
+ghost use Rattle.std.specs.Prelude.{◌≤◌};
+
+use super::player::{Player, Said, what_of};
+use mt_base::{Channel, Grain, What};
+use mts_msg::{dump, note_change};
+
+/// Takes events at tick 0, and tells whether each could be taken.
+fn take_all(player: &mut Player, list: &[Said]) -> bool {
+    for said in list {
+        let is_taken = match what_of(*said) {
+            Some(what) => player.take(0, &what).is_some(),
+            None => false,
+        };
+        if !is_taken {
+            return false;
+        }
+    }
+    true
+}
+
+/// Takes a system exclusive event.
+fn take_system(player: &mut Player, bytes: &[u8]) -> bool {
+    player.take(0, &What::Sysex { lead: 0xf0, bytes }).is_some()
+}
+
+/// The pitch of a key, in grains.
+fn pitch(player: &Player, channel: u8, key: u8) -> Option<i128> {
+    let channel = Channel::new(channel)?;
+    if key > 127 {
+        return None;
+    }
+    match player.receiver.played(channel, key) {
+        Some(Grain(grains)) => Some(grains),
+        None => None,
+    }
+}
+
+/// Key 69, 81 or 60 of equal temperament, a semitone, and what a step of the wheel is at a range of one semitone.
+const A: i128 = 220_800_000_000_000;
+
+const HIGH_A: i128 = 259_200_000_000_000;
+
+const C: i128 = 192_000_000_000_000;
+
+const SEMITONE: i128 = 3_200_000_000_000;
+
+const STEP: i128 = 390_625_000;
+
+#[test]
+fn a_note_plays_its_tuning_with_all_bends(rt: HostRuntime) {
+    use Said::{Bend, Control, Off, On, System};
+    let mut player = Player::new();
+    assert_eq!(rt; pitch(&player, 0, 69), None);
+    assert!(rt; take_all(&mut player, &[On(0, 69, 64), On(0, 81, 64), On(1, 60, 64)]));
+    assert_eq!(rt; pitch(&player, 0, 69), Some(A));
+    assert_eq!(rt; pitch(&player, 0, 81), Some(HIGH_A));
+    assert_eq!(rt; pitch(&player, 0, 70), None);
+    // a dump of key 69 alone, a quarter of a semitone high, to program 5, and a change of key 60 in it
+    let mut values = [None; 128];
+    values[69] = Some(69 * 16384 + 4096);
+    let bytes = dump(5, &values);
+    assert!(rt; take_system(&mut player, bytes.as_slice()));
+    assert_eq!(rt; pitch(&player, 0, 69), Some(A));
+    assert!(rt;
+        take_all(
+            &mut player,
+            &[Control(0, 101, 0), Control(0, 100, 3), Control(0, 6, 5)]
+        )
+    );
+    assert_eq!(rt; pitch(&player, 0, 69), Some(A + SEMITONE / 4));
+    assert_eq!(rt; pitch(&player, 0, 81), Some(HIGH_A));
+    assert_eq!(rt; pitch(&player, 1, 60), Some(C));
+    let bytes = note_change(5, 69, 70 * 16384);
+    assert!(rt; take_system(&mut player, bytes.as_slice()));
+    assert_eq!(rt; pitch(&player, 0, 69), Some(A + SEMITONE));
+    let bytes = note_change(4, 69, 0);
+    assert!(rt; take_system(&mut player, bytes.as_slice()));
+    assert_eq!(rt; pitch(&player, 0, 69), Some(A + SEMITONE));
+    // fine tuning 65, 1: 129 steps up; coarse tuning 63: a semitone down
+    assert!(rt;
+        take_all(
+            &mut player,
+            &[Control(0, 100, 1), Control(0, 6, 65), Control(0, 38, 1)]
+        )
+    );
+    assert_eq!(rt; pitch(&player, 0, 69), Some(A + SEMITONE + 129 * STEP));
+    assert!(rt; take_all(&mut player, &[Control(0, 100, 2), Control(0, 6, 63)]));
+    assert_eq!(rt; pitch(&player, 0, 69), Some(A + 129 * STEP));
+    // the wheel down by half at a range of 2 semitones, then of 1.5
+    assert!(rt; take_all(&mut player, &[Bend(0, 4096)]));
+    assert_eq!(rt; pitch(&player, 0, 69), Some(A + 129 * STEP - SEMITONE));
+    assert!(rt;
+        take_all(
+            &mut player,
+            &[Control(0, 100, 0), Control(0, 6, 1), Control(0, 38, 50)]
+        )
+    );
+    assert_eq!(rt;
+        pitch(&player, 0, 69),
+        Some(A + 129 * STEP - SEMITONE * 3 / 4)
+    );
+    assert_eq!(rt; pitch(&player, 1, 60), Some(C));
+    // a reset forgets the tunings
+    let reset: &[u8] = &[0x7e, 0x7f, 0x09, 0x01, 0xf7];
+    assert!(rt; take_system(&mut player, reset));
+    assert_eq!(rt; pitch(&player, 0, 69), None);
+    assert!(rt;
+        take_all(
+            &mut player,
+            &[
+                On(0, 69, 64),
+                Control(0, 101, 0),
+                Control(0, 100, 3),
+                Control(0, 6, 5)
+            ]
+        )
+    );
+    assert_eq!(rt; pitch(&player, 0, 69), Some(A));
+    assert!(rt; take_all(&mut player, &[Off(0, 69, 64), System(0xf0, &[0x00])]));
+    assert_eq!(rt; pitch(&player, 0, 69), None);
+}
+
+#[test]
+fn a_member_has_its_masters_tuning_and_both_bends(rt: HostRuntime) {
+    use Said::{Bend, Control, On};
+    let mut player = Player::new();
+    let set_up = [
+        // a zone of three members: 2 semitones on the master, 48 on a member
+        Control(0, 101, 0),
+        Control(0, 100, 6),
+        Control(0, 6, 3),
+        // the master's fine tuning: a step up; the member's, and its program, have no effect
+        Control(0, 100, 1),
+        Control(0, 38, 1),
+        Control(1, 101, 0),
+        Control(1, 100, 2),
+        Control(1, 6, 65),
+        Control(1, 100, 3),
+        Control(1, 6, 9),
+        Control(0, 100, 3),
+        Control(0, 6, 7),
+        On(1, 69, 64),
+        On(0, 69, 64),
+    ];
+    assert!(rt; take_all(&mut player, &set_up));
+    assert_eq!(rt; pitch(&player, 1, 69), Some(A + STEP));
+    let bytes = note_change(9, 69, 0);
+    assert!(rt; take_system(&mut player, bytes.as_slice()));
+    assert_eq!(rt; pitch(&player, 1, 69), Some(A + STEP));
+    let bytes = note_change(7, 69, 70 * 16384);
+    assert!(rt; take_system(&mut player, bytes.as_slice()));
+    assert_eq!(rt; pitch(&player, 1, 69), Some(A + SEMITONE + STEP));
+    // ten steps of the member's wheel are 480 steps of a semitone each, a hundred of the master's 200
+    assert!(rt; take_all(&mut player, &[Bend(1, 8202), Bend(0, 8292)]));
+    assert_eq!(rt;
+        pitch(&player, 1, 69),
+        Some(A + SEMITONE + STEP + 480 * STEP + 200 * STEP)
+    );
+    assert_eq!(rt;
+        pitch(&player, 0, 69),
+        Some(A + SEMITONE + STEP + 200 * STEP)
+    );
+    // without the zone the member has what is its own
+    assert!(rt; take_all(&mut player, &[Control(0, 100, 6), Control(0, 6, 0)]));
+    assert_eq!(rt; pitch(&player, 1, 69), Some(SEMITONE + 480 * STEP));
+}
+
+/// Whether there is room for an event.
+fn has_room(player: &Player, said: Said) -> bool {
+    match what_of(said) {
+        Some(what) => player.may_take(&what),
+        None => false,
+    }
+}
+
+#[test]
+fn a_seventeenth_parameter_has_no_room(rt: HostRuntime) {
+    use Said::{Control, On, System};
+    let mut player = Player::new();
+    assert!(rt; take_all(&mut player, &[Control(0, 99, 1)]));
+    for low in 0..16u8 {
+        assert!(rt; take_all(&mut player, &[Control(0, 98, low), Control(0, 6, 1)]));
+    }
+    assert!(rt; take_all(&mut player, &[Control(0, 98, 16)]));
+    assert!(rt; !has_room(&player, Control(0, 6, 1)));
+    assert!(rt; !has_room(&player, Control(0, 38, 1)));
+    // its default, another channel, and what isn't data entry
+    let others = [
+        Control(0, 6, 64),
+        Control(0, 38, 0),
+        Control(1, 6, 1),
+        Control(0, 7, 1),
+        Control(0, 121, 0),
+        On(0, 60, 64),
+        System(0xf0, &[0x7e, 0x7f, 0x09, 0x01, 0xf7]),
+    ];
+    for said in others {
+        assert!(rt; has_room(&player, said), "{said:?}");
+    }
+    // one that is there already, and those that don't count
+    assert!(rt; take_all(&mut player, &[Control(0, 98, 3)]));
+    assert!(rt; has_room(&player, Control(0, 6, 2)));
+    assert!(rt; has_room(&player, Control(0, 38, 2)));
+    assert!(rt; take_all(&mut player, &[Control(0, 101, 0)]));
+    for low in [0, 1, 2, 3, 5, 6] {
+        assert!(rt;
+            take_all(
+                &mut player,
+                &[Control(0, 100, low), Control(0, 6, 1), Control(0, 38, 1)]
+            )
+        );
+    }
+    assert!(rt; take_all(&mut player, &[Control(0, 100, 4)]));
+    assert!(rt; !has_room(&player, Control(0, 6, 1)));
+    // one goes back to its default, and there is room again
+    assert!(rt;
+        take_all(
+            &mut player,
+            &[Control(0, 99, 1), Control(0, 98, 3), Control(0, 6, 64)]
+        )
+    );
+    assert!(rt; take_all(&mut player, &[Control(0, 98, 16), Control(0, 6, 1)]));
+}
