@@ -8,6 +8,7 @@ pub mod Examples
 pub mod Sysex
 pub mod TuningBytes
 pub mod Params
+pub mod ParameterLaws
 pub mod Channel
 pub mod Zones
 pub mod Notes

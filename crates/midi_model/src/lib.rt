@@ -3,12 +3,14 @@
 
 mod fault;
 mod order;
+mod params;
 mod receiver;
 mod text;
 mod worked;
 
 pub use fault::{SmfKind, Stop};
 pub use order::{merged_example, merged_order};
+pub use params::parameter_laws;
 pub use receiver::{
     bring_examples, controller_examples, music_hears_no_tuning, pedal_examples, receiver_laws,
     reset_examples, silent_at_first, tuning_examples, zone_examples,
