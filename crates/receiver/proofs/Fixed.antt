@@ -2,10 +2,10 @@
 use Rattle.std.proofs.Common.{◌≡◌, ◌≢◌, ℕ, zero, suc, ◌<◌, ◌≤◌, List, [], ◌∷◌, true, false, ◌||◌, nat_eq, nat_lt, length, filter, get_or, set, refl, ap, sym, ◌∙◌, arith, inl, inr}
 use Rattle.std.proofs.lemmas.Bool.{eqb-true, lt-ltb, ne_eqb}
 use Rattle.midi_model.specs.Params.{Parameter, Entry, rank, value_of, put, rpn, counts}
-use Rattle.midi_model.proofs.Parameters.{either, value_of-put_other}
-use Rattle.midi_model.proofs.Equal.{IsSmall}
+use Rattle.midi_model.specs.ParameterLaws.{IsSmall}
 use Rattle.receiver.specs.Kept.{is_canonical, is_other, are_others, is_apart}
 use Rattle.receiver.specs.State.{params_of}
+use Rattle.receiver.proofs.Laws.{Laws, either}
 use Rattle.receiver.proofs.Tidy.{Tidy, tidy_put, commute, twice, value_here, not_counted, all_counted, canonical_from, small_from, both, others_put}
 
 small_rpn : (n : ℕ) → n < 128 → IsSmall (rpn n)
@@ -35,56 +35,56 @@ two c d es = put (rpn 2) c (three d es)
 abbrev one : ℕ × ℕ → ℕ × ℕ → ℕ × ℕ → List Entry → List Entry
 one b c d es = put (rpn 1) b (two c d es)
 
-tidy3 : (d : ℕ × ℕ) (es : List Entry) → Tidy es → Tidy (three d es)
-tidy3 d es t = tidy_put (rpn 5) d es s5 t
+tidy3 : (l : Laws) (d : ℕ × ℕ) (es : List Entry) → Tidy es → Tidy (three d es)
+tidy3 l d es t = tidy_put l (rpn 5) d es s5 t
 
-tidy2 : (c d : ℕ × ℕ) (es : List Entry) → Tidy es → Tidy (two c d es)
-tidy2 c d es t = tidy_put (rpn 2) c (three d es) s2 (tidy3 d es t)
+tidy2 : (l : Laws) (c d : ℕ × ℕ) (es : List Entry) → Tidy es → Tidy (two c d es)
+tidy2 l c d es t = tidy_put l (rpn 2) c (three d es) s2 (tidy3 l d es t)
 
-tidy1 : (b c d : ℕ × ℕ) (es : List Entry) → Tidy es → Tidy (one b c d es)
-tidy1 b c d es t = tidy_put (rpn 1) b (two c d es) s1 (tidy2 c d es t)
+tidy1 : (l : Laws) (b c d : ℕ × ℕ) (es : List Entry) → Tidy es → Tidy (one b c d es)
+tidy1 l b c d es t = tidy_put l (rpn 1) b (two c d es) s1 (tidy2 l c d es t)
 
 abbrev z : ℕ × ℕ
 z = (0, 0)
 
 -- a value of a fixed parameter
-pub set_0 : (fixed : List (ℕ × ℕ)) (es : List Entry) (p : Parameter) (v : ℕ × ℕ) → 0 < length fixed → Tidy es → IsSmall p → rank p ≡ 0
+pub set_0 : (l : Laws) (fixed : List (ℕ × ℕ)) (es : List Entry) (p : Parameter) (v : ℕ × ℕ) → 0 < length fixed → Tidy es → IsSmall p → rank p ≡ 0
     → params_of (set fixed 0 v) es ≡ put p v (params_of fixed es)
-set_0 [] es p v h t s e = absurd (omega (arith, h))
-set_0 (a ∷ fs) es p v h t s e = sym (twice p (rpn 0) v a (one (get_or fs 0 z) (get_or fs 1 z) (get_or fs 2 z) es) (tidy1 (get_or fs 0 z) (get_or fs 1 z) (get_or fs 2 z) es t) s s0 e)
+set_0 l [] es p v h t s e = absurd (omega (arith, h))
+set_0 l (a ∷ fs) es p v h t s e = sym (twice l p (rpn 0) v a (one (get_or fs 0 z) (get_or fs 1 z) (get_or fs 2 z) es) (tidy1 l (get_or fs 0 z) (get_or fs 1 z) (get_or fs 2 z) es t) s s0 e)
 
-pub set_1 : (fixed : List (ℕ × ℕ)) (es : List Entry) (p : Parameter) (v : ℕ × ℕ) → 1 < length fixed → Tidy es → IsSmall p → rank p ≡ 1
+pub set_1 : (l : Laws) (fixed : List (ℕ × ℕ)) (es : List Entry) (p : Parameter) (v : ℕ × ℕ) → 1 < length fixed → Tidy es → IsSmall p → rank p ≡ 1
     → params_of (set fixed 1 v) es ≡ put p v (params_of fixed es)
-set_1 [] es p v h t s e = absurd (omega (arith, h))
-set_1 (a ∷ []) es p v h t s e = absurd (omega (arith, h))
-set_1 (a ∷ b ∷ fs) es p v h t s e =
+set_1 l [] es p v h t s e = absurd (omega (arith, h))
+set_1 l (a ∷ []) es p v h t s e = absurd (omega (arith, h))
+set_1 l (a ∷ b ∷ fs) es p v h t s e =
     let c = get_or fs 0 z in
     let d = get_or fs 1 z in
-    ap (put (rpn 0) a) (sym (twice p (rpn 1) v b (two c d es) (tidy2 c d es t) s s1 e))
-    ∙ sym (commute p (rpn 0) v a (one b c d es) (tidy1 b c d es t) s s0 (λ x. omega (arith, e, x)))
+    ap (put (rpn 0) a) (sym (twice l p (rpn 1) v b (two c d es) (tidy2 l c d es t) s s1 e))
+    ∙ sym (commute l p (rpn 0) v a (one b c d es) (tidy1 l b c d es t) s s0 (λ x. omega (arith, e, x)))
 
-pub set_2 : (fixed : List (ℕ × ℕ)) (es : List Entry) (p : Parameter) (v : ℕ × ℕ) → 2 < length fixed → Tidy es → IsSmall p → rank p ≡ 2
+pub set_2 : (l : Laws) (fixed : List (ℕ × ℕ)) (es : List Entry) (p : Parameter) (v : ℕ × ℕ) → 2 < length fixed → Tidy es → IsSmall p → rank p ≡ 2
     → params_of (set fixed 2 v) es ≡ put p v (params_of fixed es)
-set_2 [] es p v h t s e = absurd (omega (arith, h))
-set_2 (a ∷ []) es p v h t s e = absurd (omega (arith, h))
-set_2 (a ∷ b ∷ []) es p v h t s e = absurd (omega (arith, h))
-set_2 (a ∷ b ∷ c ∷ fs) es p v h t s e =
+set_2 l [] es p v h t s e = absurd (omega (arith, h))
+set_2 l (a ∷ []) es p v h t s e = absurd (omega (arith, h))
+set_2 l (a ∷ b ∷ []) es p v h t s e = absurd (omega (arith, h))
+set_2 l (a ∷ b ∷ c ∷ fs) es p v h t s e =
     let d = get_or fs 0 z in
-    ap (λ x. put (rpn 0) a (put (rpn 1) b x)) (sym (twice p (rpn 2) v c (three d es) (tidy3 d es t) s s2 e))
-    ∙ ap (put (rpn 0) a) (sym (commute p (rpn 1) v b (two c d es) (tidy2 c d es t) s s1 (λ x. omega (arith, e, x))))
-    ∙ sym (commute p (rpn 0) v a (one b c d es) (tidy1 b c d es t) s s0 (λ x. omega (arith, e, x)))
+    ap (λ x. put (rpn 0) a (put (rpn 1) b x)) (sym (twice l p (rpn 2) v c (three d es) (tidy3 l d es t) s s2 e))
+    ∙ ap (put (rpn 0) a) (sym (commute l p (rpn 1) v b (two c d es) (tidy2 l c d es t) s s1 (λ x. omega (arith, e, x))))
+    ∙ sym (commute l p (rpn 0) v a (one b c d es) (tidy1 l b c d es t) s s0 (λ x. omega (arith, e, x)))
 
-pub set_3 : (fixed : List (ℕ × ℕ)) (es : List Entry) (p : Parameter) (v : ℕ × ℕ) → 3 < length fixed → Tidy es → IsSmall p → rank p ≡ 5
+pub set_3 : (l : Laws) (fixed : List (ℕ × ℕ)) (es : List Entry) (p : Parameter) (v : ℕ × ℕ) → 3 < length fixed → Tidy es → IsSmall p → rank p ≡ 5
     → params_of (set fixed 3 v) es ≡ put p v (params_of fixed es)
-set_3 [] es p v h t s e = absurd (omega (arith, h))
-set_3 (a ∷ []) es p v h t s e = absurd (omega (arith, h))
-set_3 (a ∷ b ∷ []) es p v h t s e = absurd (omega (arith, h))
-set_3 (a ∷ b ∷ c ∷ []) es p v h t s e = absurd (omega (arith, h))
-set_3 (a ∷ b ∷ c ∷ d ∷ fs) es p v h t s e =
-    ap (λ x. put (rpn 0) a (put (rpn 1) b (put (rpn 2) c x))) (sym (twice p (rpn 5) v d es t s s5 e))
-    ∙ ap (λ x. put (rpn 0) a (put (rpn 1) b x)) (sym (commute p (rpn 2) v c (three d es) (tidy3 d es t) s s2 (λ x. omega (arith, e, x))))
-    ∙ ap (put (rpn 0) a) (sym (commute p (rpn 1) v b (two c d es) (tidy2 c d es t) s s1 (λ x. omega (arith, e, x))))
-    ∙ sym (commute p (rpn 0) v a (one b c d es) (tidy1 b c d es t) s s0 (λ x. omega (arith, e, x)))
+set_3 l [] es p v h t s e = absurd (omega (arith, h))
+set_3 l (a ∷ []) es p v h t s e = absurd (omega (arith, h))
+set_3 l (a ∷ b ∷ []) es p v h t s e = absurd (omega (arith, h))
+set_3 l (a ∷ b ∷ c ∷ []) es p v h t s e = absurd (omega (arith, h))
+set_3 l (a ∷ b ∷ c ∷ d ∷ fs) es p v h t s e =
+    ap (λ x. put (rpn 0) a (put (rpn 1) b (put (rpn 2) c x))) (sym (twice l p (rpn 5) v d es t s s5 e))
+    ∙ ap (λ x. put (rpn 0) a (put (rpn 1) b x)) (sym (commute l p (rpn 2) v c (three d es) (tidy3 l d es t) s s2 (λ x. omega (arith, e, x))))
+    ∙ ap (put (rpn 0) a) (sym (commute l p (rpn 1) v b (two c d es) (tidy2 l c d es t) s s1 (λ x. omega (arith, e, x))))
+    ∙ sym (commute l p (rpn 0) v a (one b c d es) (tidy1 l b c d es t) s s0 (λ x. omega (arith, e, x)))
 
 -- none of the four
 pub record IsOwn (p : Parameter) : Type 0 where
@@ -94,58 +94,58 @@ pub record IsOwn (p : Parameter) : Type 0 where
   pub not_5 : rank p ≢ 5
 
 -- a value of another parameter
-pub set_own : (fixed : List (ℕ × ℕ)) (es : List Entry) (p : Parameter) (v : ℕ × ℕ) → Tidy es → IsSmall p → IsOwn p
+pub set_own : (l : Laws) (fixed : List (ℕ × ℕ)) (es : List Entry) (p : Parameter) (v : ℕ × ℕ) → Tidy es → IsSmall p → IsOwn p
     → params_of fixed (put p v es) ≡ put p v (params_of fixed es)
-set_own fixed es p v t s o =
+set_own l fixed es p v t s o =
     let a = get_or fixed 0 z in
     let b = get_or fixed 1 z in
     let c = get_or fixed 2 z in
     let d = get_or fixed 3 z in
-    ap (λ x. put (rpn 0) a (put (rpn 1) b (put (rpn 2) c x))) (sym (commute p (rpn 5) v d es t s s5 o.not_5))
-    ∙ ap (λ x. put (rpn 0) a (put (rpn 1) b x)) (sym (commute p (rpn 2) v c (three d es) (tidy3 d es t) s s2 o.not_2))
-    ∙ ap (put (rpn 0) a) (sym (commute p (rpn 1) v b (two c d es) (tidy2 c d es t) s s1 o.not_1))
-    ∙ sym (commute p (rpn 0) v a (one b c d es) (tidy1 b c d es t) s s0 o.not_0)
+    ap (λ x. put (rpn 0) a (put (rpn 1) b (put (rpn 2) c x))) (sym (commute l p (rpn 5) v d es t s s5 o.not_5))
+    ∙ ap (λ x. put (rpn 0) a (put (rpn 1) b x)) (sym (commute l p (rpn 2) v c (three d es) (tidy3 l d es t) s s2 o.not_2))
+    ∙ ap (put (rpn 0) a) (sym (commute l p (rpn 1) v b (two c d es) (tidy2 l c d es t) s s1 o.not_1))
+    ∙ sym (commute l p (rpn 0) v a (one b c d es) (tidy1 l b c d es t) s s0 o.not_0)
 
 -- what each is
-pub value_0 : (fixed : List (ℕ × ℕ)) (es : List Entry) (p : Parameter) → Tidy es → rank p ≡ 0 → get_or fixed 0 z ≡ value_of (params_of fixed es) p
-value_0 fixed es p t e = sym (value_here (rpn 0) p (get_or fixed 0 z) (one (get_or fixed 1 z) (get_or fixed 2 z) (get_or fixed 3 z) es) e (tidy1 (get_or fixed 1 z) (get_or fixed 2 z) (get_or fixed 3 z) es t).0)
+pub value_0 : (l : Laws) (fixed : List (ℕ × ℕ)) (es : List Entry) (p : Parameter) → Tidy es → rank p ≡ 0 → get_or fixed 0 z ≡ value_of (params_of fixed es) p
+value_0 l fixed es p t e = sym (value_here l (rpn 0) p (get_or fixed 0 z) (one (get_or fixed 1 z) (get_or fixed 2 z) (get_or fixed 3 z) es) e (tidy1 l (get_or fixed 1 z) (get_or fixed 2 z) (get_or fixed 3 z) es t).0)
 
-pub value_1 : (fixed : List (ℕ × ℕ)) (es : List Entry) (p : Parameter) → Tidy es → rank p ≡ 1 → get_or fixed 1 z ≡ value_of (params_of fixed es) p
-value_1 fixed es p t e =
+pub value_1 : (l : Laws) (fixed : List (ℕ × ℕ)) (es : List Entry) (p : Parameter) → Tidy es → rank p ≡ 1 → get_or fixed 1 z ≡ value_of (params_of fixed es) p
+value_1 l fixed es p t e =
     let b = get_or fixed 1 z in
     let c = get_or fixed 2 z in
     let d = get_or fixed 3 z in
-    sym (value_of-put_other (rpn 0) p (get_or fixed 0 z) (one b c d es) (λ x. omega (arith, e, x))
-    ∙ value_here (rpn 1) p b (two c d es) e (tidy2 c d es t).0)
+    sym (l.others (rpn 0) p (get_or fixed 0 z) (one b c d es) (λ x. omega (arith, e, x))
+    ∙ value_here l (rpn 1) p b (two c d es) e (tidy2 l c d es t).0)
 
-pub value_2 : (fixed : List (ℕ × ℕ)) (es : List Entry) (p : Parameter) → Tidy es → rank p ≡ 2 → get_or fixed 2 z ≡ value_of (params_of fixed es) p
-value_2 fixed es p t e =
+pub value_2 : (l : Laws) (fixed : List (ℕ × ℕ)) (es : List Entry) (p : Parameter) → Tidy es → rank p ≡ 2 → get_or fixed 2 z ≡ value_of (params_of fixed es) p
+value_2 l fixed es p t e =
     let b = get_or fixed 1 z in
     let c = get_or fixed 2 z in
     let d = get_or fixed 3 z in
-    sym (value_of-put_other (rpn 0) p (get_or fixed 0 z) (one b c d es) (λ x. omega (arith, e, x))
-    ∙ value_of-put_other (rpn 1) p b (two c d es) (λ x. omega (arith, e, x))
-    ∙ value_here (rpn 2) p c (three d es) e (tidy3 d es t).0)
+    sym (l.others (rpn 0) p (get_or fixed 0 z) (one b c d es) (λ x. omega (arith, e, x))
+    ∙ l.others (rpn 1) p b (two c d es) (λ x. omega (arith, e, x))
+    ∙ value_here l (rpn 2) p c (three d es) e (tidy3 l d es t).0)
 
-pub value_3 : (fixed : List (ℕ × ℕ)) (es : List Entry) (p : Parameter) → Tidy es → rank p ≡ 5 → get_or fixed 3 z ≡ value_of (params_of fixed es) p
-value_3 fixed es p t e =
+pub value_3 : (l : Laws) (fixed : List (ℕ × ℕ)) (es : List Entry) (p : Parameter) → Tidy es → rank p ≡ 5 → get_or fixed 3 z ≡ value_of (params_of fixed es) p
+value_3 l fixed es p t e =
     let b = get_or fixed 1 z in
     let c = get_or fixed 2 z in
     let d = get_or fixed 3 z in
-    sym (value_of-put_other (rpn 0) p (get_or fixed 0 z) (one b c d es) (λ x. omega (arith, e, x))
-    ∙ value_of-put_other (rpn 1) p b (two c d es) (λ x. omega (arith, e, x))
-    ∙ value_of-put_other (rpn 2) p c (three d es) (λ x. omega (arith, e, x))
-    ∙ value_here (rpn 5) p d es e t.0)
+    sym (l.others (rpn 0) p (get_or fixed 0 z) (one b c d es) (λ x. omega (arith, e, x))
+    ∙ l.others (rpn 1) p b (two c d es) (λ x. omega (arith, e, x))
+    ∙ l.others (rpn 2) p c (three d es) (λ x. omega (arith, e, x))
+    ∙ value_here l (rpn 5) p d es e t.0)
 
-pub value_own : (fixed : List (ℕ × ℕ)) (es : List Entry) (p : Parameter) → IsOwn p → value_of es p ≡ value_of (params_of fixed es) p
-value_own fixed es p o =
+pub value_own : (l : Laws) (fixed : List (ℕ × ℕ)) (es : List Entry) (p : Parameter) → IsOwn p → value_of es p ≡ value_of (params_of fixed es) p
+value_own l fixed es p o =
     let b = get_or fixed 1 z in
     let c = get_or fixed 2 z in
     let d = get_or fixed 3 z in
-    sym (value_of-put_other (rpn 0) p (get_or fixed 0 z) (one b c d es) o.not_0
-    ∙ value_of-put_other (rpn 1) p b (two c d es) o.not_1
-    ∙ value_of-put_other (rpn 2) p c (three d es) o.not_2
-    ∙ value_of-put_other (rpn 5) p d es o.not_5)
+    sym (l.others (rpn 0) p (get_or fixed 0 z) (one b c d es) o.not_0
+    ∙ l.others (rpn 1) p b (two c d es) o.not_1
+    ∙ l.others (rpn 2) p c (three d es) o.not_2
+    ∙ l.others (rpn 5) p d es o.not_5)
 
 -- how many count
 pub counted_are : (fixed : List (ℕ × ℕ)) (es : List Entry) → are_others es ≡ true → length (filter counts (params_of fixed es)) ≡ length es
@@ -207,10 +207,10 @@ pub counted_apart : (fixed : List (ℕ × ℕ)) (es : List Entry) (p : Parameter
     → length (filter counts (put p v (params_of fixed es))) ≡ length es
 counted_apart fixed es p v o h = ap length (not_counted p v (params_of fixed es) (apart_uncounted p v h)) ∙ counted_are fixed es o
 
-pub counted_own : (fixed : List (ℕ × ℕ)) (es : List Entry) (p : Parameter) (v : ℕ × ℕ) → is_canonical es ≡ true → are_others es ≡ true → IsOwn p → rank p ≢ 3 → rank p ≢ 6 → p.high ≤ 127 → p.low ≤ 127 → v.0 ≤ 127 → v.1 ≤ 127
+pub counted_own : (l : Laws) (fixed : List (ℕ × ℕ)) (es : List Entry) (p : Parameter) (v : ℕ × ℕ) → is_canonical es ≡ true → are_others es ≡ true → IsOwn p → rank p ≢ 3 → rank p ≢ 6 → p.high ≤ 127 → p.low ≤ 127 → v.0 ≤ 127 → v.1 ≤ 127
     → length (filter counts (put p v (params_of fixed es))) ≡ length (put p v es)
-counted_own fixed es p v c o w h k a b x y =
-    ap (λ ps. length (filter counts ps)) (sym (set_own fixed es p v (tidy_others es c o) (record { high = omega (arith, a); low = omega (arith, b) }) w))
+counted_own l fixed es p v c o w h k a b x y =
+    ap (λ ps. length (filter counts ps)) (sym (set_own l fixed es p v (tidy_others es c o) (record { high = omega (arith, a); low = omega (arith, b) }) w))
     ∙ counted_are fixed (put p v es) (others_put p v es (is_other_own p v w h k a b x y) o)
 
 -- the last of the four

@@ -1,3 +1,4 @@
+pub mod Laws
 pub mod Putting
 pub mod Tidy
 pub mod Fixed

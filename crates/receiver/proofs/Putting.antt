@@ -5,9 +5,9 @@ use Rattle.std.proofs.lemmas.List.{map-append, take-append-drop, length-map}
 use Rattle.std.proofs.lemmas.List.Edits.{length-insert}
 use Rattle.std.specs.Prelude.{insert, remove}
 use Rattle.midi_model.specs.Params.{Parameter, Entry, rank, pair_eq, default_value, value_of, with_front, put, IsCanonical}
-use Rattle.midi_model.proofs.Parameters.{absent, skip, found}
 use Rattle.receiver.specs.declared.param.Param.{Param}
 use Rattle.receiver.specs.Params.{parameter_of, entry_of, entries_of, rank_at}
+use Rattle.receiver.proofs.Laws.{absent, skip, found}
 
 abbrev pub Before : List Param → ℕ → ℕ → Type 0
 Before os at r = (k : ℕ) → k < at → slice_index (map rank_at os) k < r

@@ -3,9 +3,9 @@ use Rattle.std.proofs.Common.{◌≡◌, ◌≢◌, ℕ, ◌<◌, List, [], ◌�
 use Rattle.std.specs.List.{AllByRecursion}
 use Rattle.std.proofs.lemmas.Bool.{cases_lt, ltb-true, lt-ltb, eqb-true, eqb-false}
 use Rattle.midi_model.specs.Params.{Parameter, Entry, rank, pair_eq, default_value, value_of, with_front, put, IsAbove, IsCanonical, counts}
-use Rattle.midi_model.proofs.Parameters.{either, standard_by, value_of-put_same, value_of-put_other, canonical_put}
-use Rattle.midi_model.proofs.Equal.{IsSmall, AreSmall, canonical_equal}
+use Rattle.midi_model.specs.ParameterLaws.{IsSmall, AreSmall}
 use Rattle.receiver.specs.Kept.{is_above, is_canonical, is_low_value, is_other, are_others}
+use Rattle.receiver.proofs.Laws.{Laws, either, standard_by}
 use Rattle.receiver.proofs.Putting.{put_under, put_on, put_over}
 
 pub left : (x y : Bool) → (x && y) ≡ true → x ≡ true
@@ -94,8 +94,8 @@ others_to (e ∷ es) h = both (is_other e) (are_others es) h.0 (others_to es h.1
 pub others_put : (p : Parameter) (v : ℕ × ℕ) (es : List Entry) → is_other (record { parameter = p; value = v }) ≡ true → are_others es ≡ true → are_others (put p v es) ≡ true
 others_put p v es h a = others_to (put p v es) (each_put is_other p v es h (others_from es a))
 
-pub ordered_put : (p : Parameter) (v : ℕ × ℕ) (es : List Entry) → is_canonical es ≡ true → is_canonical (put p v es) ≡ true
-ordered_put p v es h = canonical_to (put p v es) (canonical_put p v es (canonical_from es h))
+pub ordered_put : (l : Laws) (p : Parameter) (v : ℕ × ℕ) (es : List Entry) → is_canonical es ≡ true → is_canonical (put p v es) ≡ true
+ordered_put l p v es h = canonical_to (put p v es) (l.form p v es (canonical_from es h))
 
 small_of : (e : Entry) → is_other e ≡ true → IsSmall e.parameter
 small_of e h =
@@ -131,49 +131,49 @@ small_put p v (e ∷ es) h a = elim (stands p e) [
   ]
 ]
 
-pub tidy_put : (p : Parameter) (v : ℕ × ℕ) (es : List Entry) → IsSmall p → Tidy es → Tidy (put p v es)
-tidy_put p v es h t = (canonical_put p v es t.0, small_put p v es h t.1)
+pub tidy_put : (l : Laws) (p : Parameter) (v : ℕ × ℕ) (es : List Entry) → IsSmall p → Tidy es → Tidy (put p v es)
+tidy_put l p v es h t = (l.form p v es t.0, small_put p v es h t.1)
 
 -- a value is looked up by its rank
 pub value_by : (es : List Entry) (p q : Parameter) → rank p ≡ rank q → value_of es p ≡ value_of es q
 value_by [] p q e = standard_by p q e
 value_by (f ∷ es) p q e = ap (λ r. cond (nat_eq (rank f.parameter) r) f.value (value_of es p)) e ∙ ap (λ r. cond (nat_eq (rank f.parameter) (rank q)) f.value r) (value_by es p q e)
 
-pub value_here : (p r : Parameter) (v : ℕ × ℕ) (es : List Entry) → rank r ≡ rank p → IsCanonical es → value_of (put p v es) r ≡ v
-value_here p r v es e c = value_by (put p v es) r p e ∙ value_of-put_same p v es c
+pub value_here : (l : Laws) (p r : Parameter) (v : ℕ × ℕ) (es : List Entry) → rank r ≡ rank p → IsCanonical es → value_of (put p v es) r ≡ v
+value_here l p r v es e c = value_by (put p v es) r p e ∙ l.given p v es c
 
-pub commute : (p q : Parameter) (v w : ℕ × ℕ) (es : List Entry) → Tidy es → IsSmall p → IsSmall q → rank p ≢ rank q → put p v (put q w es) ≡ put q w (put p v es)
-commute p q v w es t sp sq ne =
-    let one = tidy_put p v (put q w es) sp (tidy_put q w es sq t) in
-    let two = tidy_put q w (put p v es) sq (tidy_put p v es sp t) in
-    canonical_equal (put p v (put q w es)) (put q w (put p v es)) one.0 two.0 one.1 two.1 same
+pub commute : (l : Laws) (p q : Parameter) (v w : ℕ × ℕ) (es : List Entry) → Tidy es → IsSmall p → IsSmall q → rank p ≢ rank q → put p v (put q w es) ≡ put q w (put p v es)
+commute l p q v w es t sp sq ne =
+    let one = tidy_put l p v (put q w es) sp (tidy_put l q w es sq t) in
+    let two = tidy_put l q w (put p v es) sq (tidy_put l p v es sp t) in
+    l.equal (put p v (put q w es)) (put q w (put p v es)) one.0 two.0 one.1 two.1 same
   where
     same : (r : Parameter) → value_of (put p v (put q w es)) r ≡ value_of (put q w (put p v es)) r
     same r = elim (either (nat_eq (rank r) (rank p))) [
       | inl h ↦ (let e : rank r ≡ rank p = eqb-true (rank r) (rank p) h in
-          value_here p r v (put q w es) e (canonical_put q w es t.0) ∙ sym (value_of-put_other q r w (put p v es) (λ x. ne (sym e ∙ x)) ∙ value_here p r v es e t.0))
+          value_here l p r v (put q w es) e (l.form q w es t.0) ∙ sym (l.others q r w (put p v es) (λ x. ne (sym e ∙ x)) ∙ value_here l p r v es e t.0))
       | inr h ↦ (let n : rank r ≢ rank p = eqb-false (rank r) (rank p) h in
           elim (either (nat_eq (rank r) (rank q))) [
             | inl k ↦ (let e : rank r ≡ rank q = eqb-true (rank r) (rank q) k in
-                value_of-put_other p r v (put q w es) n ∙ value_here q r w es e t.0 ∙ sym (value_here q r w (put p v es) e (canonical_put p v es t.0)))
+                l.others p r v (put q w es) n ∙ value_here l q r w es e t.0 ∙ sym (value_here l q r w (put p v es) e (l.form p v es t.0)))
             | inr k ↦ (let m : rank r ≢ rank q = eqb-false (rank r) (rank q) k in
-                value_of-put_other p r v (put q w es) n ∙ value_of-put_other q r w es m ∙ sym (value_of-put_other q r w (put p v es) m ∙ value_of-put_other p r v es n))
+                l.others p r v (put q w es) n ∙ l.others q r w es m ∙ sym (l.others q r w (put p v es) m ∙ l.others p r v es n))
           ])
     ]
 
-pub twice : (p q : Parameter) (v w : ℕ × ℕ) (es : List Entry) → Tidy es → IsSmall p → IsSmall q → rank p ≡ rank q → put p v (put q w es) ≡ put q v es
-twice p q v w es t sp sq same_number =
-    let one = tidy_put p v (put q w es) sp (tidy_put q w es sq t) in
-    let two = tidy_put q v es sq t in
-    canonical_equal (put p v (put q w es)) (put q v es) one.0 two.0 one.1 two.1 same
+pub twice : (l : Laws) (p q : Parameter) (v w : ℕ × ℕ) (es : List Entry) → Tidy es → IsSmall p → IsSmall q → rank p ≡ rank q → put p v (put q w es) ≡ put q v es
+twice l p q v w es t sp sq same_number =
+    let one = tidy_put l p v (put q w es) sp (tidy_put l q w es sq t) in
+    let two = tidy_put l q v es sq t in
+    l.equal (put p v (put q w es)) (put q v es) one.0 two.0 one.1 two.1 same
   where
     same : (r : Parameter) → value_of (put p v (put q w es)) r ≡ value_of (put q v es) r
     same r = elim (either (nat_eq (rank r) (rank p))) [
       | inl h ↦ (let e : rank r ≡ rank p = eqb-true (rank r) (rank p) h in
-          value_here p r v (put q w es) e (canonical_put q w es t.0) ∙ sym (value_here q r v es (e ∙ same_number) t.0))
+          value_here l p r v (put q w es) e (l.form q w es t.0) ∙ sym (value_here l q r v es (e ∙ same_number) t.0))
       | inr h ↦ (let n : rank r ≢ rank p = eqb-false (rank r) (rank p) h in
           let m : rank r ≢ rank q = λ x. n (x ∙ sym same_number) in
-          value_of-put_other p r v (put q w es) n ∙ value_of-put_other q r w es m ∙ sym (value_of-put_other q r v es m))
+          l.others p r v (put q w es) n ∙ l.others q r w es m ∙ sym (l.others q r v es m))
     ]
 
 -- what doesn't count isn't counted

@@ -7,6 +7,7 @@ use crate::others::{has_room, put_in, value_in};
 use crate::param::{Param, is_kept_apart, rank_of};
 use crate::role::{Purpose, Selected, purpose_of, selected_by};
 use arrayvec::ArrayVec;
+use midi_model::parameter_laws;
 use mt_base::Msg;
 use tab::Tab;
 
@@ -107,6 +108,7 @@ impl ChannelState {
     fn value_at(&self, registered: bool, high: u8, low: u8) -> (u8, u8)
         ensures { result ≡ value_of (own_of self.now).params (numbered registered high low) }
     {
+        parameter_laws();
         let rank = rank_of(registered, high, low);
         if !is_kept_apart(rank) {
             return value_in(self.others.as_slice(), registered, high, low);
@@ -142,6 +144,7 @@ impl ChannelState {
         ensures keys { self.new.keys ≡ self.old.keys }
         ensures tuning { self.new.tuning ≡ self.old.tuning }
     {
+        parameter_laws();
         let rank = param.rank();
         if rank == 0 {
             self.fixed[0] = param.value;
@@ -167,6 +170,7 @@ impl ChannelState {
         ensures keys { self.new.keys ≡ self.old.keys }
         ensures tuning { self.new.tuning ≡ self.old.tuning }
     {
+        parameter_laws();
         if is_kept_apart(param.rank()) {
             self.set_apart(param);
         } else {
@@ -191,6 +195,7 @@ impl ChannelState {
         requires no_zone { rank (parameter_of param) ≢ 6 }
         ensures { IsTrue result ↔ (counted (record (own_of self.now) { params = put (parameter_of param) param.value (own_of self.now).params }) ≤ 16) }
     {
+        parameter_laws();
         if is_kept_apart(param.rank()) {
             self.others.len() <= 16
         } else {

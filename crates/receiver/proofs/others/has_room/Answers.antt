@@ -1,8 +1,8 @@
 use Rattle.std.proofs.Common.{◌≡◌, ◌≤◌, ◌<◌, refl, arith, sym, ◌∙◌, length, inl, inr}
 use Rattle.std.proofs.lemmas.Bool.{lt-ltb}
 use Rattle.midi_model.specs.Params.{pair_eq, default_value}
-use Rattle.midi_model.proofs.Parameters.{either}
 use Rattle.receiver.specs.Params.{parameter_of}
+use Rattle.receiver.proofs.Laws.{either}
 use Rattle.receiver.proofs.Putting.{moved_found, moved_absent, length_found, length_default, length_other}
 use Rattle.receiver.proofs.others.has_room.Goals as goal
 

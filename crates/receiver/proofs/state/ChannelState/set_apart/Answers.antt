@@ -1,48 +1,53 @@
 use Rattle.std.proofs.Common.{◌<◌, length, arith, ◌∙◌, sym, ap, rules}
 use Rattle.midi_model.specs.Params.{rank}
-use Rattle.midi_model.proofs.Equal.{IsSmall}
+use Rattle.midi_model.specs.ParameterLaws.{IsSmall}
 use Rattle.receiver.specs.Params.{entries_of, parameter_of}
 use Rattle.receiver.specs.State.{own_of}
+use Rattle.receiver.proofs.Laws.{Laws}
 use Rattle.receiver.proofs.Fixed.{tidy_others, set_0, set_1, set_2, set_3, apart_last}
 use Rattle.receiver.proofs.Low.{pair_set}
 use Rattle.receiver.proofs.state.ChannelState.set_apart.Goals as goal
 
 pub returns-then-rank-eq0-clause-own : goal.returns-then-rank-eq0-clause-own
 returns-then-rank-eq0-clause-own c =
+    let l : Laws = record { given = c.parameter_laws.ensures.given; others = c.parameter_laws.ensures.others; form = c.parameter_laws.ensures.form; equal = c.parameter_laws.ensures.equal } in
     let s = c.args.self.now in
     let x = c.args.param in
     let es = entries_of s.others.items in
     let few : 0 < length s.fixed = search rules in
     let small : IsSmall (parameter_of x) = record { high = omega (arith, c.requires.high); low = omega (arith, c.requires.low) } in
-    ap (λ ps. record (own_of s) { params = ps }) (set_0 s.fixed es (parameter_of x) x.value few (tidy_others es s.ordered s.others_fit) small (sym c.rank-rank.ensures ∙ c.if-rank-eq0.true))
+    ap (λ ps. record (own_of s) { params = ps }) (set_0 l s.fixed es (parameter_of x) x.value few (tidy_others es s.ordered s.others_fit) small (sym c.rank-rank.ensures ∙ c.if-rank-eq0.true))
 
 pub returns-then-rank-eq1-clause-own : goal.returns-then-rank-eq1-clause-own
 returns-then-rank-eq1-clause-own c =
+    let l : Laws = record { given = c.parameter_laws.ensures.given; others = c.parameter_laws.ensures.others; form = c.parameter_laws.ensures.form; equal = c.parameter_laws.ensures.equal } in
     let s = c.args.self.now in
     let x = c.args.param in
     let es = entries_of s.others.items in
     let few : 1 < length s.fixed = search rules in
     let small : IsSmall (parameter_of x) = record { high = omega (arith, c.requires.high); low = omega (arith, c.requires.low) } in
-    ap (λ ps. record (own_of s) { params = ps }) (set_1 s.fixed es (parameter_of x) x.value few (tidy_others es s.ordered s.others_fit) small (sym c.rank-rank.ensures ∙ c.if-rank-eq1.true))
+    ap (λ ps. record (own_of s) { params = ps }) (set_1 l s.fixed es (parameter_of x) x.value few (tidy_others es s.ordered s.others_fit) small (sym c.rank-rank.ensures ∙ c.if-rank-eq1.true))
 
 pub returns-then-rank-eq2-clause-own : goal.returns-then-rank-eq2-clause-own
 returns-then-rank-eq2-clause-own c =
+    let l : Laws = record { given = c.parameter_laws.ensures.given; others = c.parameter_laws.ensures.others; form = c.parameter_laws.ensures.form; equal = c.parameter_laws.ensures.equal } in
     let s = c.args.self.now in
     let x = c.args.param in
     let es = entries_of s.others.items in
     let few : 2 < length s.fixed = search rules in
     let small : IsSmall (parameter_of x) = record { high = omega (arith, c.requires.high); low = omega (arith, c.requires.low) } in
-    ap (λ ps. record (own_of s) { params = ps }) (set_2 s.fixed es (parameter_of x) x.value few (tidy_others es s.ordered s.others_fit) small (sym c.rank-rank.ensures ∙ c.if-rank-eq2.true))
+    ap (λ ps. record (own_of s) { params = ps }) (set_2 l s.fixed es (parameter_of x) x.value few (tidy_others es s.ordered s.others_fit) small (sym c.rank-rank.ensures ∙ c.if-rank-eq2.true))
 
 pub returns-else-rank-eq2-clause-own : goal.returns-else-rank-eq2-clause-own
 returns-else-rank-eq2-clause-own c =
+    let l : Laws = record { given = c.parameter_laws.ensures.given; others = c.parameter_laws.ensures.others; form = c.parameter_laws.ensures.form; equal = c.parameter_laws.ensures.equal } in
     let s = c.args.self.now in
     let x = c.args.param in
     let es = entries_of s.others.items in
     let few : 3 < length s.fixed = search rules in
     let small : IsSmall (parameter_of x) = record { high = omega (arith, c.requires.high); low = omega (arith, c.requires.low) } in
     let last = apart_last (rank (parameter_of x)) c.requires.apart (λ e. c.if-rank-eq0.false (c.rank-rank.ensures ∙ e)) (λ e. c.if-rank-eq1.false (c.rank-rank.ensures ∙ e)) (λ e. c.if-rank-eq2.false (c.rank-rank.ensures ∙ e)) in
-    ap (λ ps. record (own_of s) { params = ps }) (set_3 s.fixed es (parameter_of x) x.value few (tidy_others es s.ordered s.others_fit) small last)
+    ap (λ ps. record (own_of s) { params = ps }) (set_3 l s.fixed es (parameter_of x) x.value few (tidy_others es s.ordered s.others_fit) small last)
 
 pub invariant_of-self : goal.invariant_of-self
 invariant_of-self c =

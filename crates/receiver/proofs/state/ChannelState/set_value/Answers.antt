@@ -2,6 +2,7 @@ use Rattle.std.proofs.Common.{arith, ◌∙◌, sym, ap}
 use Rattle.receiver.specs.Params.{entries_of, parameter_of}
 use Rattle.receiver.specs.Kept.{is_apart, is_canonical, are_others}
 use Rattle.receiver.specs.State.{own_of, params_of}
+use Rattle.receiver.proofs.Laws.{Laws}
 use Rattle.receiver.proofs.Tidy.{others_put, ordered_put}
 use Rattle.receiver.proofs.Fixed.{tidy_others, set_own, counted_own, own_from, is_other_own}
 use Rattle.receiver.proofs.state.ChannelState.set_value.Goals as goal
@@ -17,14 +18,16 @@ set_apart-requires c = record {
 
 pub put_in-requires : goal.put_in-requires
 put_in-requires c =
+    let l : Laws = record { given = c.parameter_laws.ensures.given; others = c.parameter_laws.ensures.others; form = c.parameter_laws.ensures.form; equal = c.parameter_laws.ensures.equal } in
     let s = c.args.self.now in
     let x = c.args.param in
     let h = ap is_apart (sym c.rank.ensures) ∙ sym c.is_kept_apart.ensures ∙ c.if-is_kept_apart.false in
-    let n = counted_own s.fixed (entries_of s.others.items) (parameter_of x) x.value s.ordered s.others_fit (own_from (parameter_of x) h) c.requires.no_program c.requires.no_zone c.requires.high c.requires.low c.requires.value_high c.requires.value_low in
+    let n = counted_own l s.fixed (entries_of s.others.items) (parameter_of x) x.value s.ordered s.others_fit (own_from (parameter_of x) h) c.requires.no_program c.requires.no_zone c.requires.high c.requires.low c.requires.value_high c.requires.value_low in
     omega (arith, n, c.requires.room)
 
 pub invariant_of-self : goal.invariant_of-self
 invariant_of-self c =
+    let l : Laws = record { given = c.parameter_laws.ensures.given; others = c.parameter_laws.ensures.others; form = c.parameter_laws.ensures.form; equal = c.parameter_laws.ensures.equal } in
     let s = c.args.self.now in
     let x = c.args.param in
     let es = entries_of s.others.items in
@@ -33,7 +36,7 @@ invariant_of-self c =
     record {
       controls_over = s.controls_over;
       keys_over = s.keys_over;
-      ordered = ap is_canonical c.put_in.ensures ∙ ordered_put (parameter_of x) x.value es s.ordered;
+      ordered = ap is_canonical c.put_in.ensures ∙ ordered_put l (parameter_of x) x.value es s.ordered;
       others_fit = ap are_others c.put_in.ensures ∙ others_put (parameter_of x) x.value es (is_other_own (parameter_of x) x.value o c.requires.no_program c.requires.no_zone c.requires.high c.requires.low c.requires.value_high c.requires.value_low) s.others_fit;
       rpn_fits = s.rpn_fits;
       nrpn_fits = s.nrpn_fits;
@@ -48,10 +51,11 @@ invariant_of-self c =
 
 pub returns-else-is_kept_apart-clause-own : goal.returns-else-is_kept_apart-clause-own
 returns-else-is_kept_apart-clause-own c =
+    let l : Laws = record { given = c.parameter_laws.ensures.given; others = c.parameter_laws.ensures.others; form = c.parameter_laws.ensures.form; equal = c.parameter_laws.ensures.equal } in
     let s = c.args.self.now in
     let x = c.args.param in
     let es = entries_of s.others.items in
     let h = ap is_apart (sym c.rank.ensures) ∙ sym c.is_kept_apart.ensures ∙ c.if-is_kept_apart.false in
     ap (λ ps. record (own_of s) { params = ps })
     (ap (params_of s.fixed) c.put_in.ensures
-    ∙ set_own s.fixed es (parameter_of x) x.value (tidy_others es s.ordered s.others_fit) (record { high = omega (arith, c.requires.high); low = omega (arith, c.requires.low) }) (own_from (parameter_of x) h))
+    ∙ set_own l s.fixed es (parameter_of x) x.value (tidy_others es s.ordered s.others_fit) (record { high = omega (arith, c.requires.high); low = omega (arith, c.requires.low) }) (own_from (parameter_of x) h))
