@@ -10,6 +10,9 @@ pub record Laws : Type 0 where
   pub form : PutKeepsTheForm
   pub equal : EqualByValues
 
+pub laws : PutGivesTheValue → PutLeavesTheOthers → PutKeepsTheForm → EqualByValues → Laws
+laws g o f e = record { given = g; others = o; form = f; equal = e }
+
 pub either : (b : Bool) → (b ≡ true) ⊎ (b ≡ false)
 either true = inl refl
 either false = inr refl

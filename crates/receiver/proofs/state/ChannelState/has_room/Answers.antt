@@ -2,7 +2,7 @@ use Rattle.std.proofs.Common.{◌≤◌, length, arith, ◌∙◌, sym, ap}
 use Rattle.std.proofs.lemmas.List.{length-map}
 use Rattle.receiver.specs.Params.{entries_of, entry_of, parameter_of}
 use Rattle.receiver.specs.Kept.{is_apart}
-use Rattle.receiver.proofs.Laws.{Laws}
+use Rattle.receiver.proofs.Laws.{laws}
 use Rattle.receiver.proofs.Fixed.{counted_apart, counted_own, own_from}
 use Rattle.receiver.proofs.state.ChannelState.has_room.Goals as goal
 
@@ -18,7 +18,8 @@ returns-then-is_kept_apart c =
 
 pub returns-else-is_kept_apart : goal.returns-else-is_kept_apart
 returns-else-is_kept_apart c =
-    let l : Laws = record { given = c.parameter_laws.ensures.given; others = c.parameter_laws.ensures.others; form = c.parameter_laws.ensures.form; equal = c.parameter_laws.ensures.equal } in
+    let e = c.parameter_laws.ensures in
+    let l = laws e.given e.others e.form e.equal in
     let s = c.args.self.now in
     let x = c.args.param in
     let h = ap is_apart (sym c.rank.ensures) ∙ sym c.is_kept_apart.ensures ∙ c.if-is_kept_apart.false in

@@ -3,14 +3,15 @@ use Rattle.midi_model.specs.Params.{rank}
 use Rattle.midi_model.specs.ParameterLaws.{IsSmall}
 use Rattle.receiver.specs.Params.{entries_of, parameter_of}
 use Rattle.receiver.specs.State.{own_of}
-use Rattle.receiver.proofs.Laws.{Laws}
+use Rattle.receiver.proofs.Laws.{laws}
 use Rattle.receiver.proofs.Fixed.{tidy_others, set_0, set_1, set_2, set_3, apart_last}
 use Rattle.receiver.proofs.Low.{pair_set}
 use Rattle.receiver.proofs.state.ChannelState.set_apart.Goals as goal
 
 pub returns-then-rank-eq0-clause-own : goal.returns-then-rank-eq0-clause-own
 returns-then-rank-eq0-clause-own c =
-    let l : Laws = record { given = c.parameter_laws.ensures.given; others = c.parameter_laws.ensures.others; form = c.parameter_laws.ensures.form; equal = c.parameter_laws.ensures.equal } in
+    let e = c.parameter_laws.ensures in
+    let l = laws e.given e.others e.form e.equal in
     let s = c.args.self.now in
     let x = c.args.param in
     let es = entries_of s.others.items in
@@ -20,7 +21,8 @@ returns-then-rank-eq0-clause-own c =
 
 pub returns-then-rank-eq1-clause-own : goal.returns-then-rank-eq1-clause-own
 returns-then-rank-eq1-clause-own c =
-    let l : Laws = record { given = c.parameter_laws.ensures.given; others = c.parameter_laws.ensures.others; form = c.parameter_laws.ensures.form; equal = c.parameter_laws.ensures.equal } in
+    let e = c.parameter_laws.ensures in
+    let l = laws e.given e.others e.form e.equal in
     let s = c.args.self.now in
     let x = c.args.param in
     let es = entries_of s.others.items in
@@ -30,7 +32,8 @@ returns-then-rank-eq1-clause-own c =
 
 pub returns-then-rank-eq2-clause-own : goal.returns-then-rank-eq2-clause-own
 returns-then-rank-eq2-clause-own c =
-    let l : Laws = record { given = c.parameter_laws.ensures.given; others = c.parameter_laws.ensures.others; form = c.parameter_laws.ensures.form; equal = c.parameter_laws.ensures.equal } in
+    let e = c.parameter_laws.ensures in
+    let l = laws e.given e.others e.form e.equal in
     let s = c.args.self.now in
     let x = c.args.param in
     let es = entries_of s.others.items in
@@ -40,7 +43,8 @@ returns-then-rank-eq2-clause-own c =
 
 pub returns-else-rank-eq2-clause-own : goal.returns-else-rank-eq2-clause-own
 returns-else-rank-eq2-clause-own c =
-    let l : Laws = record { given = c.parameter_laws.ensures.given; others = c.parameter_laws.ensures.others; form = c.parameter_laws.ensures.form; equal = c.parameter_laws.ensures.equal } in
+    let e = c.parameter_laws.ensures in
+    let l = laws e.given e.others e.form e.equal in
     let s = c.args.self.now in
     let x = c.args.param in
     let es = entries_of s.others.items in

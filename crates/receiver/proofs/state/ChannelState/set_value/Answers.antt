@@ -2,7 +2,7 @@ use Rattle.std.proofs.Common.{arith, ◌∙◌, sym, ap}
 use Rattle.receiver.specs.Params.{entries_of, parameter_of}
 use Rattle.receiver.specs.Kept.{is_apart, is_canonical, are_others}
 use Rattle.receiver.specs.State.{own_of, params_of}
-use Rattle.receiver.proofs.Laws.{Laws}
+use Rattle.receiver.proofs.Laws.{laws}
 use Rattle.receiver.proofs.Tidy.{others_put, ordered_put}
 use Rattle.receiver.proofs.Fixed.{tidy_others, set_own, counted_own, own_from, is_other_own}
 use Rattle.receiver.proofs.state.ChannelState.set_value.Goals as goal
@@ -18,7 +18,8 @@ set_apart-requires c = record {
 
 pub put_in-requires : goal.put_in-requires
 put_in-requires c =
-    let l : Laws = record { given = c.parameter_laws.ensures.given; others = c.parameter_laws.ensures.others; form = c.parameter_laws.ensures.form; equal = c.parameter_laws.ensures.equal } in
+    let e = c.parameter_laws.ensures in
+    let l = laws e.given e.others e.form e.equal in
     let s = c.args.self.now in
     let x = c.args.param in
     let h = ap is_apart (sym c.rank.ensures) ∙ sym c.is_kept_apart.ensures ∙ c.if-is_kept_apart.false in
@@ -27,7 +28,8 @@ put_in-requires c =
 
 pub invariant_of-self : goal.invariant_of-self
 invariant_of-self c =
-    let l : Laws = record { given = c.parameter_laws.ensures.given; others = c.parameter_laws.ensures.others; form = c.parameter_laws.ensures.form; equal = c.parameter_laws.ensures.equal } in
+    let e = c.parameter_laws.ensures in
+    let l = laws e.given e.others e.form e.equal in
     let s = c.args.self.now in
     let x = c.args.param in
     let es = entries_of s.others.items in
@@ -51,7 +53,8 @@ invariant_of-self c =
 
 pub returns-else-is_kept_apart-clause-own : goal.returns-else-is_kept_apart-clause-own
 returns-else-is_kept_apart-clause-own c =
-    let l : Laws = record { given = c.parameter_laws.ensures.given; others = c.parameter_laws.ensures.others; form = c.parameter_laws.ensures.form; equal = c.parameter_laws.ensures.equal } in
+    let e = c.parameter_laws.ensures in
+    let l = laws e.given e.others e.form e.equal in
     let s = c.args.self.now in
     let x = c.args.param in
     let es = entries_of s.others.items in

@@ -3,7 +3,7 @@ use Rattle.midi_model.specs.Params.{rank, value_of, IsCanonical}
 use Rattle.receiver.specs.declared.param.Param.{Param}
 use Rattle.receiver.specs.Params.{entries_of, numbered}
 use Rattle.receiver.specs.Kept.{is_apart}
-use Rattle.receiver.proofs.Laws.{Laws}
+use Rattle.receiver.proofs.Laws.{laws}
 use Rattle.receiver.proofs.Tidy.{canonical_from}
 use Rattle.receiver.proofs.Fixed.{tidy_others, value_0, value_1, value_2, value_3, value_own, own_from, apart_last}
 use Rattle.receiver.proofs.state.ChannelState.value_at.Goals as goal
@@ -16,7 +16,8 @@ value_in-requires c =
 
 pub returns-then-not-is_kept_apart : goal.returns-then-not-is_kept_apart
 returns-then-not-is_kept_apart c =
-    let l : Laws = record { given = c.parameter_laws.ensures.given; others = c.parameter_laws.ensures.others; form = c.parameter_laws.ensures.form; equal = c.parameter_laws.ensures.equal } in
+    let e = c.parameter_laws.ensures in
+    let l = laws e.given e.others e.form e.equal in
     let s = c.args.self.now in
     let p = numbered c.args.registered c.args.high c.args.low in
     let d : c.is_kept_apart.result ≡ false = search rules in
@@ -25,28 +26,32 @@ returns-then-not-is_kept_apart c =
 
 pub returns-then-rank-eq0 : goal.returns-then-rank-eq0
 returns-then-rank-eq0 c =
-    let l : Laws = record { given = c.parameter_laws.ensures.given; others = c.parameter_laws.ensures.others; form = c.parameter_laws.ensures.form; equal = c.parameter_laws.ensures.equal } in
+    let e = c.parameter_laws.ensures in
+    let l = laws e.given e.others e.form e.equal in
     let s = c.args.self.now in
     let es = entries_of s.others.items in
     value_0 l s.fixed es (numbered c.args.registered c.args.high c.args.low) (tidy_others es s.ordered s.others_fit) (sym c.rank_of-rank.ensures ∙ c.if-rank-eq0.true)
 
 pub returns-then-rank-eq1 : goal.returns-then-rank-eq1
 returns-then-rank-eq1 c =
-    let l : Laws = record { given = c.parameter_laws.ensures.given; others = c.parameter_laws.ensures.others; form = c.parameter_laws.ensures.form; equal = c.parameter_laws.ensures.equal } in
+    let e = c.parameter_laws.ensures in
+    let l = laws e.given e.others e.form e.equal in
     let s = c.args.self.now in
     let es = entries_of s.others.items in
     value_1 l s.fixed es (numbered c.args.registered c.args.high c.args.low) (tidy_others es s.ordered s.others_fit) (sym c.rank_of-rank.ensures ∙ c.if-rank-eq1.true)
 
 pub returns-then-rank-eq2 : goal.returns-then-rank-eq2
 returns-then-rank-eq2 c =
-    let l : Laws = record { given = c.parameter_laws.ensures.given; others = c.parameter_laws.ensures.others; form = c.parameter_laws.ensures.form; equal = c.parameter_laws.ensures.equal } in
+    let e = c.parameter_laws.ensures in
+    let l = laws e.given e.others e.form e.equal in
     let s = c.args.self.now in
     let es = entries_of s.others.items in
     value_2 l s.fixed es (numbered c.args.registered c.args.high c.args.low) (tidy_others es s.ordered s.others_fit) (sym c.rank_of-rank.ensures ∙ c.if-rank-eq2.true)
 
 pub returns-else-rank-eq2 : goal.returns-else-rank-eq2
 returns-else-rank-eq2 c =
-    let l : Laws = record { given = c.parameter_laws.ensures.given; others = c.parameter_laws.ensures.others; form = c.parameter_laws.ensures.form; equal = c.parameter_laws.ensures.equal } in
+    let e = c.parameter_laws.ensures in
+    let l = laws e.given e.others e.form e.equal in
     let s = c.args.self.now in
     let es = entries_of s.others.items in
     let p = numbered c.args.registered c.args.high c.args.low in
