@@ -5,7 +5,7 @@ use Rattle.std.specs.List.{AllByRecursion}
 use Rattle.std.proofs.lemmas.Int.{ints}
 use Rattle.mt_base.specs.Grains.{octave}
 use Rattle.mt_base.specs.Pitch.{Pitch, AtLeast, AtMost, ratio, exactly, added, subtracted, times}
-use Rattle.mt_base.proofs.Pitches.{least_of_sum, most_of_sum, least_of_difference, most_of_difference, least_of_multiple, most_of_multiple, least_of_exact, most_of_exact}
+use Rattle.mt_base.specs.Laws.{LeastOfSum, MostOfSum, LeastOfDifference, MostOfDifference, LeastOfMultiple, MostOfMultiple, LeastOfExact, MostOfExact}
 use Rattle.retune_model.specs.Scale.{IsOctaves, repeated, size_of}
 use Rattle.retune_model.specs.Table.{Bounds, AreBounds}
 use Rattle.key_pitch.proofs.Signs.{times_apart, turned}
@@ -18,24 +18,24 @@ pub all_second : {X : Type 0} (P : X → Type 0) (xs ys : List X) → AllByRecur
 all_second P [] ys h = h
 all_second P (x ∷ xs) ys h = all_second P xs ys h.1
 
-pub sum_bounds : (p q : Pitch) (m n : ℕ) (r s : List (ℕ × ℕ)) (a b c : Bounds) → AreBounds p m r a → AreBounds q n s b → c.lo ≡ a.lo +ℤ b.lo → c.hi ≡ a.hi +ℤ b.hi → AreBounds (added p q) (m + n) (r ++ s) c
-sum_bounds p q m n r s a b c h i lo hi = record {
+pub sum_bounds : LeastOfSum → MostOfSum → (p q : Pitch) (m n : ℕ) (r s : List (ℕ × ℕ)) (a b c : Bounds) → AreBounds p m r a → AreBounds q n s b → c.lo ≡ a.lo +ℤ b.lo → c.hi ≡ a.hi +ℤ b.hi → AreBounds (added p q) (m + n) (r ++ s) c
+sum_bounds least_of_sum most_of_sum p q m n r s a b c h i lo hi = record {
   least = rw lo (least_of_sum p q a.lo b.lo h.least i.least);
   most = rw hi (most_of_sum p q a.hi b.hi h.most i.most);
   narrow = omega (arith, ints, lo, hi, h.narrow, i.narrow);
   exact = λ all. let e = h.exact (all_first IsOctaves r s all) in let f = i.exact (all_second IsOctaves r s all) in omega (arith, ints, lo, hi, e, f);
 }
 
-pub difference_bounds : (p q : Pitch) (m n : ℕ) (r s : List (ℕ × ℕ)) (a b c : Bounds) → AreBounds p m r a → AreBounds q n s b → c.lo ≡ a.lo -ℤ b.hi → c.hi ≡ a.hi -ℤ b.lo → AreBounds (subtracted p q) (m + n) (r ++ s) c
-difference_bounds p q m n r s a b c h i lo hi = record {
+pub difference_bounds : LeastOfDifference → MostOfDifference → (p q : Pitch) (m n : ℕ) (r s : List (ℕ × ℕ)) (a b c : Bounds) → AreBounds p m r a → AreBounds q n s b → c.lo ≡ a.lo -ℤ b.hi → c.hi ≡ a.hi -ℤ b.lo → AreBounds (subtracted p q) (m + n) (r ++ s) c
+difference_bounds least_of_difference most_of_difference p q m n r s a b c h i lo hi = record {
   least = rw lo (least_of_difference p q a.lo b.hi h.least i.most);
   most = rw hi (most_of_difference p q a.hi b.lo h.most i.least);
   narrow = omega (arith, ints, lo, hi, h.narrow, i.narrow);
   exact = λ all. let e = h.exact (all_first IsOctaves r s all) in let f = i.exact (all_second IsOctaves r s all) in omega (arith, ints, lo, hi, e, f);
 }
 
-pub exact_bounds : (n : ℤ) → AreBounds (exactly n) 0 [] (record { lo = n; hi = n })
-exact_bounds n = record {
+pub exact_bounds : LeastOfExact → MostOfExact → (n : ℤ) → AreBounds (exactly n) 0 [] (record { lo = n; hi = n })
+exact_bounds least_of_exact most_of_exact n = record {
   least = least_of_exact n;
   most = most_of_exact n;
   narrow = omega (arith, ints);
@@ -48,14 +48,14 @@ not_none j = grind arith
 some_ratios : (j : ℕ) (r : List (ℕ × ℕ)) → (if nat_eq (suc j) 0 then [] else r) ≡ r
 some_ratios j r = ap (λ b. if b then [] else r) (not_none j)
 
-times_bounds : (p : Pitch) (m j : ℕ) (r : List (ℕ × ℕ)) (a c : Bounds) → AreBounds p m r a → c.lo ≡ pos j *ℤ a.lo → c.hi ≡ pos j *ℤ a.hi → AreBounds (times j p) (j * m) (if nat_eq j 0 then [] else r) c
-times_bounds p m zero r a c h lo hi = record {
+times_bounds : LeastOfMultiple → MostOfMultiple → (p : Pitch) (m j : ℕ) (r : List (ℕ × ℕ)) (a c : Bounds) → AreBounds p m r a → c.lo ≡ pos j *ℤ a.lo → c.hi ≡ pos j *ℤ a.hi → AreBounds (times j p) (j * m) (if nat_eq j 0 then [] else r) c
+times_bounds least_of_multiple most_of_multiple p m zero r a c h lo hi = record {
   least = rw lo (least_of_multiple p a.lo zero h.least);
   most = rw hi (most_of_multiple p a.hi zero h.most);
   narrow = omega (arith, ints, lo, hi);
   exact = λ all. omega (arith, ints, lo, hi);
 }
-times_bounds p m (suc j) r a c h lo hi = record {
+times_bounds least_of_multiple most_of_multiple p m (suc j) r a c h lo hi = record {
   least = rw lo (least_of_multiple p a.lo (suc j) h.least);
   most = rw hi (most_of_multiple p a.hi (suc j) h.most);
   narrow = let e : (suc j) * (18000 * m) ≡ 18000 * (suc j * m) = grind arith in omega (arith, ints, lo, hi, e, times_apart (suc j) (18000 * m) a.lo a.hi h.narrow);
@@ -71,16 +71,26 @@ retold p m n r s a h same told = record {
   exact = λ all. h.exact (told all);
 }
 
-pub repeated_up : (p : Pitch) (m j : ℕ) (r : List (ℕ × ℕ)) (a c : Bounds) → AreBounds p m r a → c.lo ≡ pos j *ℤ a.lo → c.hi ≡ pos j *ℤ a.hi → AreBounds (repeated (pos j) p) (size_of (pos j) * m) (if nat_eq (size_of (pos j)) 0 then [] else r) c
-repeated_up p m j r a c h lo hi = times_bounds p m j r a c h lo hi
+pub repeated_up : LeastOfMultiple → MostOfMultiple → (p : Pitch) (m j : ℕ) (r : List (ℕ × ℕ)) (a c : Bounds) → AreBounds p m r a → c.lo ≡ pos j *ℤ a.lo → c.hi ≡ pos j *ℤ a.hi → AreBounds (repeated (pos j) p) (size_of (pos j) * m) (if nat_eq (size_of (pos j)) 0 then [] else r) c
+repeated_up least most p m j r a c h lo hi = times_bounds least most p m j r a c h lo hi
 
-pub repeated_down : (p : Pitch) (m j : ℕ) (r : List (ℕ × ℕ)) (a c : Bounds) → AreBounds p m r a → c.lo ≡ negsuc j *ℤ a.hi → c.hi ≡ negsuc j *ℤ a.lo → AreBounds (repeated (negsuc j) p) (size_of (negsuc j) * m) (if nat_eq (size_of (negsuc j)) 0 then [] else r) c
-repeated_down p m j r a c h lo hi =
+-- what a number of repeats below 0 rests on: so many multiples, taken from an exact 0
+pub record LawsDown : Type 0 where
+  pub least_of_multiple : LeastOfMultiple
+  pub most_of_multiple : MostOfMultiple
+  pub least_of_difference : LeastOfDifference
+  pub most_of_difference : MostOfDifference
+  pub least_of_exact : LeastOfExact
+  pub most_of_exact : MostOfExact
+
+pub repeated_down : LawsDown → (p : Pitch) (m j : ℕ) (r : List (ℕ × ℕ)) (a c : Bounds) → AreBounds p m r a → c.lo ≡ negsuc j *ℤ a.hi → c.hi ≡ negsuc j *ℤ a.lo → AreBounds (repeated (negsuc j) p) (size_of (negsuc j) * m) (if nat_eq (size_of (negsuc j)) 0 then [] else r) c
+repeated_down laws p m j r a c h lo hi =
     let b : Bounds = record { lo = pos (suc j) *ℤ a.lo; hi = pos (suc j) *ℤ a.hi } in
-    let t = times_bounds p m (suc j) r a b h refl refl in
+    let t = times_bounds laws.least_of_multiple laws.most_of_multiple p m (suc j) r a b h refl refl in
     let s : List (ℕ × ℕ) = if nat_eq (suc j) 0 then [] else r in
     retold (subtracted (exactly (pos 0)) (times (suc j) p)) (0 + suc j * m) (suc j * m) s s c
-    (difference_bounds (exactly (pos 0)) (times (suc j) p) 0 (suc j * m) [] s (record { lo = pos 0; hi = pos 0 }) b c (exact_bounds (pos 0)) t
+    (difference_bounds laws.least_of_difference laws.most_of_difference (exactly (pos 0)) (times (suc j) p) 0 (suc j * m) [] s (record { lo = pos 0; hi = pos 0 }) b c
+    (exact_bounds laws.least_of_exact laws.most_of_exact (pos 0)) t
     (omega (arith, ints, lo, turned j a.hi)) (omega (arith, ints, hi, turned j a.lo))) (omega arith) (λ all. all)
 
 -- the same bounds, of a pitch so many grains higher

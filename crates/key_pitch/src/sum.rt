@@ -2,7 +2,7 @@ ghost use Rattle.std.specs.Prelude.{◌≡◌, ◌≤◌, ◌*ℤ◌, ◌^◌};
 ghost use Rattle.retune_model.specs.Scale.{size_of};
 
 use log_bracket::log2_grains;
-use mt_base::{Bracket, Grain};
+use mt_base::{Bracket, Grain, laws};
 
 // Bounds of a pitch that is a sum of so many ratios and of whole grains.
 #[derive(Clone, Copy, Debug)]
@@ -51,6 +51,7 @@ impl Sum {
         ensures sum { (p q : Pitch) (m n : ℕ) (r t : List (ℕ × ℕ)) → Sums p m r self → Sums q n t other → Sums (added p q) (m + n) (r ++ t) result }
         ensures small { (g h m n : ℕ) → IsSmall g m self → IsSmall h n other → IsSmall (g + h) (m + n) result }
     {
+        laws::sums();
         Sum {
             bracket: Bracket {
                 lo: Grain(self.bracket.lo.0 + other.bracket.lo.0),
@@ -66,6 +67,7 @@ impl Sum {
         ensures sum { (p q : Pitch) (m n : ℕ) (r t : List (ℕ × ℕ)) → Sums p m r self → Sums q n t other → Sums (subtracted p q) (m + n) (r ++ t) result }
         ensures small { (g h m n : ℕ) → IsSmall g m self → IsSmall h n other → IsSmall (g + h) (m + n) result }
     {
+        laws::differences();
         Sum {
             bracket: Bracket {
                 lo: Grain(self.bracket.lo.0 - other.bracket.hi.0),
@@ -81,6 +83,10 @@ impl Sum {
         ensures sum { (p : Pitch) (m : ℕ) (r : List (ℕ × ℕ)) → Sums p m r self → Sums (repeated turns p) (size_of turns * m) (if nat_eq (size_of turns) 0 then [] else r) result }
         ensures small { (g m : ℕ) → IsSmall g m self → IsSmall (size_of turns * g) (size_of turns * m) result }
     {
+        // Turns below 0 are a difference: so many multiples, taken from an exact 0.
+        laws::multiples();
+        laws::differences();
+        laws::exact();
         let terms = turns.unsigned_abs() * self.terms;
         let lo = grains_repeated(turns, self.bracket.lo);
         let hi = grains_repeated(turns, self.bracket.hi);
