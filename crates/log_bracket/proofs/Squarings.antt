@@ -1,9 +1,8 @@
 -- What a chain of squarings keeps.
 use Rattle.std.proofs.Common.{◌≡◌, ℕ, zero, suc, ◌+◌, ◌-◌, ◌*◌, ◌^◌, ◌<◌, ◌≤◌, arith, refl, ◌∙◌, ap}
-use Rattle.std.proofs.Math.Nat.{pow-suc, pow-zero, mul-le-mul, mul-le-mul_left, mul-le-mul_right, le_of_mul-le-mul_left, le_trans}
+use Rattle.std.proofs.Math.Nat.{pow-suc, pow-zero, one-le-pow, mul-le-mul, mul-le-mul_left, mul-le-mul_right, le_of_mul-le-mul_left, le_trans}
 use Rattle.std.proofs.lemmas.Nat.{pow-add}
 use Rattle.std.proofs.lemmas.Grind.{pow_more}
-use Rattle.mt_base.proofs.Powers.{pow_above}
 
 -- After i squarings x / f * 2 ^ digits is at most (a / b) ^ (2 ^ i), and at least that less a part that each squaring
 -- and each cut makes greater: a cut takes less than 1 / (f + 1) of a number.
@@ -99,5 +98,5 @@ most_numbers f x m aa bb fc gc above fc_above low small h =
 pub ended_most : (f a b i x digits : ℕ) → 0 < f → x < 2 * f → 4 * 2 ^ i ≤ f → Chain f a b i x digits → a ^ (2 ^ i) ≤ 2 ^ (digits + 2) * b ^ (2 ^ i)
 ended_most f a b i x digits above low few h =
     rw (pow-add 2 digits 2)
-    (most_numbers f x (2 ^ digits) (a ^ (2 ^ i)) (b ^ (2 ^ i)) (f ^ h.cuts) ((f + 1) ^ h.cuts) above (pow_above f h.cuts above) low
+    (most_numbers f x (2 ^ digits) (a ^ (2 ^ i)) (b ^ (2 ^ i)) (f ^ h.cuts) ((f + 1) ^ h.cuts) above (omega (arith, one-le-pow h.cuts f above)) low
     (half f h.cuts above (omega (arith, h.few, few))) h.most)

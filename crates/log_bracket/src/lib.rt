@@ -13,7 +13,7 @@ ghost use Rattle.log_bracket.specs.Digits.{power};
 
 use crate::chain::binary_digits;
 use crate::scaled::{Scaled, Start};
-use mt_base::{Bracket, Grain};
+use mt_base::{Bracket, Grain, laws};
 
 const OCTAVE: u64 = 38_400_000_000_000;
 
@@ -34,6 +34,9 @@ pub fn log2_grains(a: u64, b: u64) -> Bracket
     ensures exact_up { (j : ℕ) → a ≡ 2 ^ j * b → (result.lo.0 ≡ pos (j * octave)) × (result.hi.0 ≡ pos (j * octave)) }
     ensures exact_down { (j : ℕ) → b ≡ 2 ^ j * a → (result.lo.0 ≡ neg_ℤ (pos (j * octave))) × (result.hi.0 ≡ neg_ℤ (pos (j * octave))) }
 {
+    laws::powers();
+    laws::octaves();
+    laws::ends();
     let above = Scaled::of(a);
     let below = Scaled::of(b);
     if above.mantissa == below.mantissa {

@@ -5,23 +5,23 @@ use Rattle.log_bracket.proofs.log2_grains.Goals as goal
 
 pub returns-then-above-below-clause-least : goal.returns-then-above-below-clause-least
 returns-then-above-below-clause-least c =
-    equal_least c.args.a c.args.b c.of-above.result.mantissa c.of-above.result.shift c.of-below.result.shift c.placed-octaves.result.0
+    equal_least c.powers.ensures.of_power c.args.a c.args.b c.of-above.result.mantissa c.of-above.result.shift c.of-below.result.shift c.placed-octaves.result.0
     c.of-above.ensures.value (c.if-above-below.true ∙ c.of-below.ensures.value) c.placed-octaves.ensures
 
 pub returns-then-above-below-clause-most : goal.returns-then-above-below-clause-most
 returns-then-above-below-clause-most c =
-    equal_most c.args.a c.args.b c.of-above.result.mantissa c.of-above.result.shift c.of-below.result.shift c.placed-octaves.result.0
+    equal_most c.powers.ensures.of_power c.args.a c.args.b c.of-above.result.mantissa c.of-above.result.shift c.of-below.result.shift c.placed-octaves.result.0
     c.of-above.ensures.value (c.if-above-below.true ∙ c.of-below.ensures.value) c.placed-octaves.ensures
 
 pub returns-then-above-below-clause-exact_up : goal.returns-then-above-below-clause-exact_up
 returns-then-above-below-clause-exact_up c = λ j is.
-    let e = octaves_only c.args.a c.args.b j c.placed-octaves.result.0 c.requires.a_above c.requires.b_above is
+    let e = octaves_only c.ends.ensures.in_order c.octaves.ensures.least c.octaves.ensures.most c.args.a c.args.b j c.placed-octaves.result.0 c.requires.a_above c.requires.b_above is
     (returns-then-above-below-clause-least c) (returns-then-above-below-clause-most c) in
     (e, e)
 
 pub returns-then-above-below-clause-exact_down : goal.returns-then-above-below-clause-exact_down
 returns-then-above-below-clause-exact_down c = λ j is.
-    let e = octaves_down_only c.args.a c.args.b j c.placed-octaves.result.0 c.requires.a_above c.requires.b_above is
+    let e = octaves_down_only c.ends.ensures.in_order c.octaves.ensures.least_down c.octaves.ensures.most_down c.args.a c.args.b j c.placed-octaves.result.0 c.requires.a_above c.requires.b_above is
     (returns-then-above-below-clause-least c) (returns-then-above-below-clause-most c) in
     (e, e)
 
@@ -33,14 +33,14 @@ placed-hi-requires-clause-grains c = small_up c.grains_up.result c.binary_digits
 
 pub returns-clause-least : goal.returns-clause-least
 returns-clause-least c =
-    digits_least c.args.a c.args.b c.of-above.result.mantissa c.of-below.result.mantissa c.of-above.result.shift c.of-below.result.shift
+    digits_least c.powers.ensures.of_power c.powers.ensures.tell c.args.a c.args.b c.of-above.result.mantissa c.of-below.result.mantissa c.of-above.result.shift c.of-below.result.shift
     c.of-start.result.doublings c.grains_down.result c.binary_digits-digits.result c.placed-lo.result.0 c.of-above.ensures.value c.of-below.ensures.value
     (c.binary_digits-digits.ensures.digits _ _ (record { low = c.of-start.ensures.low; high = c.of-start.ensures.high }))
     c.grains_down.ensures.low c.placed-lo.ensures
 
 pub returns-clause-most : goal.returns-clause-most
 returns-clause-most c =
-    digits_most c.args.a c.args.b c.of-above.result.mantissa c.of-below.result.mantissa c.of-above.result.shift c.of-below.result.shift
+    digits_most c.powers.ensures.of_power c.powers.ensures.tell c.args.a c.args.b c.of-above.result.mantissa c.of-below.result.mantissa c.of-above.result.shift c.of-below.result.shift
     c.of-start.result.doublings c.grains_up.result c.binary_digits-digits.result c.placed-hi.result.0 c.of-above.ensures.value c.of-below.ensures.value
     (c.binary_digits-digits.ensures.digits _ _ (record { low = c.of-start.ensures.low; high = c.of-start.ensures.high }))
     c.grains_up.ensures.low c.placed-hi.ensures
