@@ -21,7 +21,7 @@ play_few m [] = omega arith
 play_few m (e ∷ es) = omega (arith, count_step m e, one_more (begins (doing e.what)) (length m.notes), play_few (step m e) es)
 
 pub few_notes : (es : List MidiEvent) → length (after es).music.notes ≤ length es
-few_notes es = rw (music_after es) (play_few quiet es)
+few_notes es = let few : length (play quiet es).notes ≤ 0 + length es = play_few quiet es in rw (music_after es) (omega (arith, few))
 
 -- a receiver that took so many events
 abbrev pub Took : Receiver → ℕ → Type 0

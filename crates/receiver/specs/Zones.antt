@@ -4,4 +4,3 @@ use Rattle.receiver.specs.declared.zones.ZoneSizes.{ZoneSizes}
 
 abbrev pub zones_in : ZoneSizes → Zones
 zones_in z = record { lower = z.lower; upper = z.upper }
-

@@ -1,10 +1,10 @@
-//! The receiver of a stream of MIDI events: what each channel's state is. All sizes are fixed, and nothing
-//! here takes memory.
+//! A receiver of MIDI events: what each channel's state is, what sounds and at what pitch, and what ends. All
+//! sizes are fixed, and nothing here takes memory.
 #![tactic(auto)]
 
+mod counting;
 mod ends;
 mod keys;
-mod laws;
 mod note;
 mod others;
 mod param;
@@ -19,8 +19,8 @@ mod tunings;
 mod turn;
 mod zones;
 
+pub use counting::no_more_notes_than_events;
 pub use ends::Ends;
-pub use laws::no_more_notes_than_events;
 pub use note::Note;
 pub use param::Param;
 pub use receiver::Receiver;

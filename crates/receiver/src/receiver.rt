@@ -186,7 +186,9 @@ impl Receiver {
         ensures begun { self.new.begun ≡ self.old.begun + 1 }
         ensures tunings { self.new.tunings ≡ self.old.tunings }
     {
-        let voice = self.channels[self.zones.governor(channel) as usize].state.voice;
+        let voice = self.channels[self.zones.governor(channel) as usize]
+            .state
+            .voice;
         self.begun += 1;
         let struck = Struck {
             number: self.begun,
@@ -397,7 +399,9 @@ impl Receiver {
             }
             Msg::NoteOff { key, velocity, .. } => self.release(channel, key, tick, velocity),
             Msg::KeyPressure { key, value, .. } => self.press(channel, key, value),
-            Msg::Control { number, value, .. } => self.control(tick, message, channel, number, value),
+            Msg::Control { number, value, .. } => self.control(
+                tick, message, channel, number, value,
+            ),
             Msg::Program { .. } => self.apply(message),
             Msg::Pressure { .. } => self.apply(message),
             Msg::Bend { .. } => self.apply(message),

@@ -20,8 +20,8 @@ returns-else-velocity-eq0-clause-notes c d k dl kl =
     let v = c.in-NoteOn.velocity in
     let o = slot c.args.self.now d k in
     rw c.in-NoteOn.is (c.strike.ensures.notes d k dl kl
-        ∙ ap (λ i. cond {A = Slot} (nat_eq d i && nat_eq k k') (Some (n, begun m c.args.tick i k' v)) o) e
-        ∙ sym (strikes_note m n c.args.tick c.in-NoteOn.channel k' v d k o c.if-velocity-eq0.false))
+    ∙ ap (λ i. cond {A = Slot} (nat_eq d i && nat_eq k k') (Some (n, begun m c.args.tick i k' v)) o) e
+    ∙ sym (strikes_note m n c.args.tick c.in-NoteOn.channel k' v d k o c.if-velocity-eq0.false))
 
 pub returns-else-velocity-eq0-clause-begun : goal.returns-else-velocity-eq0-clause-begun
 returns-else-velocity-eq0-clause-begun c = rw c.in-NoteOn.is (c.strike.ensures.begun ∙ sym (ap (λ b. cond b (c.args.self.now.begun + 1) c.args.self.now.begun) (begins_note c.in-NoteOn.channel c.in-NoteOn.key c.in-NoteOn.velocity c.if-velocity-eq0.false)))

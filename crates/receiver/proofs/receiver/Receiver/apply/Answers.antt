@@ -17,7 +17,7 @@ returns-clause-states c =
     let d = c.index-self-channel_of.result in
     let old = states_of c.args.self.now in
     map_changed _ xs i _ (apply (get_or old i default_channel) c.args.message.now)
-        (c.apply.ensures.own ∙ ap (λ s. apply s c.args.message.now) (sym (get_or-map (λ s. own_of s.state) xs i d default_channel (search rules))))
+    (c.apply.ensures.own ∙ ap (λ s. apply s c.args.message.now) (sym (get_or-map (λ s. own_of s.state) xs i d default_channel (search rules))))
     ∙ ap (λ j. set old j (apply (get_or old j default_channel) c.args.message.now)) c.channel_of.ensures.value
 
 pub returns-clause-selected : goal.returns-clause-selected
@@ -29,7 +29,7 @@ returns-clause-selected c =
     let chosen = selected_in c.args.self.now in
     let low : i < length xs = search rules in
     map_changed _ xs i _ (program_after (get_or old i default_channel) c.args.message.now (get_or chosen i None))
-        (c.apply.ensures.tuning
-        ∙ ap (λ s. program_after s c.args.message.now (get_or xs i d).state.tuning) (sym (get_or-map (λ s. own_of s.state) xs i d default_channel low))
-        ∙ ap (λ o. program_after (get_or old i default_channel) c.args.message.now o) (sym (get_or-map (λ s. s.state.tuning) xs i d None low)))
+    (c.apply.ensures.tuning
+    ∙ ap (λ s. program_after s c.args.message.now (get_or xs i d).state.tuning) (sym (get_or-map (λ s. own_of s.state) xs i d default_channel low))
+    ∙ ap (λ o. program_after (get_or old i default_channel) c.args.message.now o) (sym (get_or-map (λ s. s.state.tuning) xs i d None low)))
     ∙ ap (λ j. set chosen j (program_after (get_or old j default_channel) c.args.message.now (get_or chosen j None))) c.channel_of.ensures.value

@@ -20,7 +20,7 @@ returns-then-channel-master-clause-states c =
     let z = zones_in c.args.self.now.zones in
     let s = get_or (states_of c.args.self.now) i default_channel in
     map_changed _ xs i _ (bend_range_at z c.args.master i s)
-        (c.bend_range.ensures.own ∙ ap (bend_range 2) (sym (get_or-map (λ s. own_of s.state) xs i c.index-self-channel.result default_channel (search rules))) ∙ sym (range_of_master z c.args.master i s c.if-channel-master.true))
+    (c.bend_range.ensures.own ∙ ap (bend_range 2) (sym (get_or-map (λ s. own_of s.state) xs i c.index-self-channel.result default_channel (search rules))) ∙ sym (range_of_master z c.args.master i s c.if-channel-master.true))
 
 pub returns-then-channel-master-clause-selected : goal.returns-then-channel-master-clause-selected
 returns-then-channel-master-clause-selected c = map_same _ _ c.args.channel _ c.index-self-channel.result c.bend_range.ensures.tuning
@@ -35,7 +35,7 @@ returns-then-governor-master-clause-states c =
     let z = zones_in c.args.self.now.zones in
     let s = get_or (states_of c.args.self.now) i default_channel in
     map_changed _ xs i _ (bend_range_at z c.args.master i s)
-        (c.bend_range-then-governor-master.ensures.own ∙ ap (bend_range 48) (sym (get_or-map (λ s. own_of s.state) xs i c.index-self-channel-then-governor-master.result default_channel (search rules))) ∙ sym (range_of_member z c.args.master i s c.if-channel-master.false (sym c.governor.ensures.value ∙ c.if-governor-master.true)))
+    (c.bend_range-then-governor-master.ensures.own ∙ ap (bend_range 48) (sym (get_or-map (λ s. own_of s.state) xs i c.index-self-channel-then-governor-master.result default_channel (search rules))) ∙ sym (range_of_member z c.args.master i s c.if-channel-master.false (sym c.governor.ensures.value ∙ c.if-governor-master.true)))
 
 pub returns-then-governor-master-clause-selected : goal.returns-then-governor-master-clause-selected
 returns-then-governor-master-clause-selected c = map_same _ _ c.args.channel _ c.index-self-channel-then-governor-master.result c.bend_range-then-governor-master.ensures.tuning

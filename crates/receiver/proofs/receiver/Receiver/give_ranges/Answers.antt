@@ -34,8 +34,8 @@ pub returns-clause-states : goal.returns-clause-states
 returns-clause-states c =
     let many : length c.args.self.now.channels ≡ 16 = search rules in
     all_ranges (zones_in c.args.self.now.zones) c.args.master (states_of c.args.self.now) (states_of c.loop-channel.self)
-        (length-map c.args.self.now.channels _ ∙ many) c.loop-channel.invariant.many
-        (λ e el. c.loop-channel.invariant.states e el ∙ at_last c.loop-channel.channel _ _ e (omega (arith, c.loop-channel-test.false)) el)
+    (length-map c.args.self.now.channels _ ∙ many) c.loop-channel.invariant.many
+    (λ e el. c.loop-channel.invariant.states e el ∙ at_last c.loop-channel.channel _ _ e (omega (arith, c.loop-channel-test.false)) el)
 
 pub loop-channel-init : goal.loop-channel-init
 loop-channel-init c = let many : length c.args.self.now.channels ≡ 16 = search rules in record {

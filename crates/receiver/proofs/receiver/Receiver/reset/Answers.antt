@@ -38,13 +38,13 @@ returns-clause-notes c d k dl kl = c.loop-channel.invariant.notes d k dl kl ∙ 
 pub returns-clause-states : goal.returns-clause-states
 returns-clause-states c =
     all_alike (states_of c.loop-channel.self) default_channel c.loop-channel.invariant.many
-        (λ e el. c.loop-channel.invariant.states e el ∙ at_last c.loop-channel.channel _ _ e (omega (arith, c.loop-channel-test.false)) el)
+    (λ e el. c.loop-channel.invariant.states e el ∙ at_last c.loop-channel.channel _ _ e (omega (arith, c.loop-channel-test.false)) el)
 
 pub returns-clause-selected : goal.returns-clause-selected
 returns-clause-selected c =
     let now = c.loop-channel.self in
     all_alike (selected_in now) None (length-map now.channels (λ s. s.state.tuning) ∙ sym (length-map now.channels (λ s. own_of s.state)) ∙ c.loop-channel.invariant.many)
-        (λ e el. c.loop-channel.invariant.selected e el ∙ at_last c.loop-channel.channel _ _ e (omega (arith, c.loop-channel-test.false)) el)
+    (λ e el. c.loop-channel.invariant.selected e el ∙ at_last c.loop-channel.channel _ _ e (omega (arith, c.loop-channel-test.false)) el)
 
 pub loop-channel-init : goal.loop-channel-init
 loop-channel-init c = let many : length c.args.self.now.channels ≡ 16 = search rules in record {

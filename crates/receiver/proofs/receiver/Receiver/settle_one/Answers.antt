@@ -10,13 +10,13 @@ pub returns-then-not-is_down-clause-notes : goal.returns-then-not-is_down-clause
 returns-then-not-is_down-clause-notes c t d k dl kl =
     let s = c.args.self.now in
     settled_one (states_of s) (zones_in s.zones) t s.channels c.args.channel _ c.index-self-channel.result (search rules)
-        (ap is_pedal_down (pedal_here s.channels c.governor-governor.result _ c.index-self-governor.result 64 (search rules) c.governor-governor.ensures.value) ∙ ap is_pedal_down (sym c.get-pedal.ensures) ∙ sym c.is_down.ensures ∙ c.if-not-is_down.true) c.lift_pedal.ensures.heard d k kl
+    (ap is_pedal_down (pedal_here s.channels c.governor-governor.result _ c.index-self-governor.result 64 (search rules) c.governor-governor.ensures.value) ∙ ap is_pedal_down (sym c.get-pedal.ensures) ∙ sym c.is_down.ensures ∙ c.if-not-is_down.true) c.lift_pedal.ensures.heard d k kl
 
 pub returns-else-not-is_down-clause-notes : goal.returns-else-not-is_down-clause-notes
 returns-else-not-is_down-clause-notes c t d k dl kl =
     let s = c.args.self.now in
     settled_none (states_of s) (zones_in s.zones) t s.channels c.args.channel
-        (ap is_pedal_down (pedal_here s.channels c.governor-governor.result _ c.index-self-governor.result 64 (search rules) c.governor-governor.ensures.value) ∙ ap is_pedal_down (sym c.get-pedal.ensures) ∙ sym c.is_down.ensures ∙ c.if-not-is_down.false) d k
+    (ap is_pedal_down (pedal_here s.channels c.governor-governor.result _ c.index-self-governor.result 64 (search rules) c.governor-governor.ensures.value) ∙ ap is_pedal_down (sym c.get-pedal.ensures) ∙ sym c.is_down.ensures ∙ c.if-not-is_down.false) d k
 
 pub returns-then-not-is_down-clause-rest : goal.returns-then-not-is_down-clause-rest
 returns-then-not-is_down-clause-rest c = record {
