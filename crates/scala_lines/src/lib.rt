@@ -2,6 +2,7 @@
 #![tactic(auto)]
 
 mod characters;
+pub mod laws;
 mod lines;
 mod numbers;
 mod pieces;
