@@ -1,13 +1,14 @@
 -- The count of a count line, and its fault.
-use Rattle.std.proofs.Common.{◌≡◌, ℕ, zero, suc, ◌<◌, ◌≤◌, ◌⊎◌, List, Result, Ok, Err, refl, sym, ap, subst, ◌∙◌, inl, inr, arith}
+use Rattle.std.proofs.Common.{◌≡◌, ℕ, zero, suc, ◌<◌, ◌≤◌, ◌⊎◌, List, length, Result, Ok, Err, false, refl, sym, ap, subst, ◌∙◌, inl, inr, arith}
 use Rattle.std.specs.Prelude.{◌==◌, nat_lt}
 use Rattle.std.proofs.lemmas.Bool.{eq-eqb, ne_eqb, lt-ltb, le-ltb, cases_lt, or_from, or_left, or_right}
 use Rattle.scala_lines.specs.Numbers.{value}
-use Rattle.scala_lines.proofs.Spelled.{digits_again, no_digits_again, digits_or_none, long, is_number}
+use Rattle.scala_lines.specs.Spelling.{IsNumber, HasDigits}
 use Rattle.scl_text.specs.declared.fault.SclKind.{SclKind}
 use Rattle.scl_text.specs.declared.fault.SclKind.TheVariants.{NoDescription, NoCount, BadCount, CountRange, BadPitch, NegativeRatio, ZeroRatio, BigNumber, MissingPitch}
 use Rattle.scl_text.specs.Reading.{count_of, count_digits, count_in_range}
 use Rattle.scl_text.specs.Spelling.{IsCount, CountFault}
+use Rattle.scl_text.proofs.Premises.{Numbers}
 
 abbrev Read : Type 0
 Read = Result ℕ SclKind
@@ -30,27 +31,34 @@ ranged : (n : ℕ) → ((1 ≤ n) × (n ≤ 4096)) ⊎ ((n ≡ 0) ⊎ (4096 < n)
 ranged zero = inr (inl refl)
 ranged (suc n) = elim (cases_lt 4096 (suc n)) [ inl h ↦ inr (inr h) | inr h ↦ inl (omega arith, h) ]
 
-pub count_again : (line : List ℕ) (n : ℕ) → IsCount line n → count_of line ≡ Ok n
-unfolding count_of
-count_again line n (digits, has, is, some, few) =
-    ap count_digits (digits_again line digits has) ∙ (rw (long digits (is_number line digits has).1, sym is) (in_range n some few))
+-- digits are not none
+long : (digits : List ℕ) → 0 < length digits → (length digits == 0) ≡ false
+long digits some = ne_eqb (length digits) 0 (λ e. omega (arith, some, e))
 
-pub count_fault_again : (line : List ℕ) (kind : SclKind) → CountFault line kind → count_of line ≡ Err kind
+is_number : (line digits : List ℕ) → HasDigits line digits → IsNumber digits
+is_number line digits (blanks, rest, b, n, s, e) = n
+
+pub count_again : Numbers → (line : List ℕ) (n : ℕ) → IsCount line n → count_of line ≡ Ok n
 unfolding count_of
-count_fault_again line BadCount h = ap count_digits (no_digits_again line h)
-count_fault_again line CountRange (digits, has, out) =
-    ap count_digits (digits_again line digits has) ∙ (rw (long digits (is_number line digits has).1) (out_of_range (value digits) out))
-count_fault_again line NoDescription h = absurd h
-count_fault_again line NoCount h = absurd h
-count_fault_again line BadPitch h = absurd h
-count_fault_again line NegativeRatio h = absurd h
-count_fault_again line ZeroRatio h = absurd h
-count_fault_again line BigNumber h = absurd h
-count_fault_again line MissingPitch h = absurd h
+count_again numbers line n (digits, has, is, some, few) =
+    ap count_digits (numbers.found line digits has) ∙ (rw (long digits (is_number line digits has).1, sym is) (in_range n some few))
+
+pub count_fault_again : Numbers → (line : List ℕ) (kind : SclKind) → CountFault line kind → count_of line ≡ Err kind
+unfolding count_of
+count_fault_again numbers line BadCount h = ap count_digits (numbers.none line h)
+count_fault_again numbers line CountRange (digits, has, out) =
+    ap count_digits (numbers.found line digits has) ∙ (rw (long digits (is_number line digits has).1) (out_of_range (value digits) out))
+count_fault_again numbers line NoDescription h = absurd h
+count_fault_again numbers line NoCount h = absurd h
+count_fault_again numbers line BadPitch h = absurd h
+count_fault_again numbers line NegativeRatio h = absurd h
+count_fault_again numbers line ZeroRatio h = absurd h
+count_fault_again numbers line BigNumber h = absurd h
+count_fault_again numbers line MissingPitch h = absurd h
 
 -- each line has a count or a fault
-pub counted : (line : List ℕ) → ((n : ℕ) × IsCount line n) ⊎ ((kind : SclKind) × CountFault line kind)
-counted line = elim (digits_or_none line) [
+pub counted : Numbers → (line : List ℕ) → ((n : ℕ) × IsCount line n) ⊎ ((kind : SclKind) × CountFault line kind)
+counted numbers line = elim (numbers.either line) [
   | inl d ↦ elim (ranged (value d.0)) [
     | inl r ↦ inl (value d.0, (d.0, d.1, refl, r.0, r.1))
     | inr r ↦ inr (CountRange, (d.0, d.1, r))
@@ -58,14 +66,14 @@ counted line = elim (digits_or_none line) [
   | inr h ↦ inr (BadCount, h)
 ]
 
-pub count_takes : (line : List ℕ) (n : ℕ) → count_of line ≡ Ok n → IsCount line n
-count_takes line n e = elim (counted line) [
-  | inl c ↦ subst (IsCount line) (ok_is c.0 n (sym (count_again line c.0 c.1) ∙ e)) c.1
-  | inr f ↦ absurd (let h = sym (count_fault_again line f.0 f.1) ∙ e in let g : (let r : Read = Err f.0 in r) ≡ Ok n = h in cc)
+pub count_takes : Numbers → (line : List ℕ) (n : ℕ) → count_of line ≡ Ok n → IsCount line n
+count_takes numbers line n e = elim (counted numbers line) [
+  | inl c ↦ subst (IsCount line) (ok_is c.0 n (sym (count_again numbers line c.0 c.1) ∙ e)) c.1
+  | inr f ↦ absurd (let h = sym (count_fault_again numbers line f.0 f.1) ∙ e in let g : (let r : Read = Err f.0 in r) ≡ Ok n = h in cc)
 ]
 
-pub count_fault_takes : (line : List ℕ) (kind : SclKind) → count_of line ≡ Err kind → CountFault line kind
-count_fault_takes line kind e = elim (counted line) [
-  | inl c ↦ absurd (let h : (let r : Read = Ok c.0 in r) ≡ Err kind = sym (count_again line c.0 c.1) ∙ e in cc)
-  | inr f ↦ subst (CountFault line) (err_is f.0 kind (sym (count_fault_again line f.0 f.1) ∙ e)) f.1
+pub count_fault_takes : Numbers → (line : List ℕ) (kind : SclKind) → count_of line ≡ Err kind → CountFault line kind
+count_fault_takes numbers line kind e = elim (counted numbers line) [
+  | inl c ↦ absurd (let h : (let r : Read = Ok c.0 in r) ≡ Err kind = sym (count_again numbers line c.0 c.1) ∙ e in cc)
+  | inr f ↦ subst (CountFault line) (err_is f.0 kind (sym (count_fault_again numbers line f.0 f.1) ∙ e)) f.1
 ]

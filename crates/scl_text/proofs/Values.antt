@@ -5,7 +5,7 @@ use Rattle.std.proofs.lemmas.Bool.{eqb-true, eqb-false, eq-eqb, ne_eqb, ltb-true
 use Rattle.std.proofs.lemmas.Int.{ints}
 use Rattle.scala_lines.specs.Characters.{is_digit, Are}
 use Rattle.scala_lines.specs.Numbers.{value, billionths}
-use Rattle.scala_lines.proofs.Decimals.{billionths_small}
+use Rattle.scala_lines.specs.Laws.{DecimalsAreLow}
 use Rattle.scl_text.specs.declared.entry.Entry.{Entry}
 use Rattle.scl_text.specs.declared.entry.Entry.TheVariants.{Ratio, Cents}
 use Rattle.scl_text.specs.declared.fault.SclKind.{SclKind}
@@ -13,11 +13,12 @@ use Rattle.scl_text.specs.declared.fault.SclKind.TheVariants.{NoDescription, NoC
 use Rattle.scl_text.specs.Pitch.{Form, InCents, AsRatio, Alone, form_of, entry_of, entry_if, ratio_entry, pitch_of, signed, greatest_number, greatest_cents}
 use Rattle.scl_text.specs.Spelling.{Stands, IsValue, IsPitch, RatioFault, FormFault, PitchFault}
 use Rattle.scl_text.specs.Ranges.{IsRatio, IsCents, IsEntry}
+use Rattle.scl_text.proofs.Premises.{Fronts}
 use Rattle.scl_text.proofs.Results.{chosen}
 use Rattle.scl_text.proofs.Written.{form_takes, form_again, no_form}
 
-pub decimals_are : (line : List ℕ) (negative : Bool) (whole decimals : List ℕ) → form_of line ≡ Some (InCents negative whole decimals) → Are is_digit decimals
-decimals_are line negative whole decimals e = let s = form_takes line (InCents negative whole decimals) e in s.4.1
+pub decimals_are : Fronts → (line : List ℕ) (negative : Bool) (whole decimals : List ℕ) → form_of line ≡ Some (InCents negative whole decimals) → Are is_digit decimals
+decimals_are fronts line negative whole decimals e = let s = form_takes fronts line (InCents negative whole decimals) e in s.4.1
 
 abbrev Read : Type 0
 Read = Result Entry SclKind
@@ -160,27 +161,27 @@ found : (o : Option Form) → (o ≡ None) ⊎ ((form : Form) × (o ≡ Some for
 found None = inl refl
 found (Some form) = inr (form, refl)
 
-pub pitch_takes : (line : List ℕ) (entry : Entry) → pitch_of line ≡ Ok entry → IsPitch line entry
-pitch_takes line entry e = elim (found (form_of line)) [
+pub pitch_takes : Fronts → (line : List ℕ) (entry : Entry) → pitch_of line ≡ Ok entry → IsPitch line entry
+pitch_takes fronts line entry e = elim (found (form_of line)) [
   | inl n ↦ absurd (let h : (let r : Read = Err BadPitch in r) ≡ Ok entry = sym (ap entry_if n) ∙ e in cc)
-  | inr s ↦ (s.0, form_takes line s.0 s.1, entry_takes s.0 entry (sym (ap entry_if s.1) ∙ e))
+  | inr s ↦ (s.0, form_takes fronts line s.0 s.1, entry_takes s.0 entry (sym (ap entry_if s.1) ∙ e))
 ]
 
-pub pitch_again : (line : List ℕ) (entry : Entry) → IsPitch line entry → pitch_of line ≡ Ok entry
-pitch_again line entry (form, s, v) = ap entry_if (form_again line form s) ∙ entry_again form entry v
+pub pitch_again : Fronts → (line : List ℕ) (entry : Entry) → IsPitch line entry → pitch_of line ≡ Ok entry
+pitch_again fronts line entry (form, s, v) = ap entry_if (form_again fronts line form s) ∙ entry_again form entry v
 
-pub pitch_fault_takes : (line : List ℕ) (kind : SclKind) → pitch_of line ≡ Err kind → PitchFault line kind
-pitch_fault_takes line kind e = elim (found (form_of line)) [
-  | inl n ↦ inl (sym (err_is BadPitch kind (sym (ap entry_if n) ∙ e)), no_form line n)
-  | inr s ↦ inr (s.0, form_takes line s.0 s.1, fault_takes s.0 kind (sym (ap entry_if s.1) ∙ e))
+pub pitch_fault_takes : Fronts → (line : List ℕ) (kind : SclKind) → pitch_of line ≡ Err kind → PitchFault line kind
+pitch_fault_takes fronts line kind e = elim (found (form_of line)) [
+  | inl n ↦ inl (sym (err_is BadPitch kind (sym (ap entry_if n) ∙ e)), no_form fronts line n)
+  | inr s ↦ inr (s.0, form_takes fronts line s.0 s.1, fault_takes s.0 kind (sym (ap entry_if s.1) ∙ e))
 ]
 
-pub pitch_fault_again : (line : List ℕ) (kind : SclKind) → PitchFault line kind → pitch_of line ≡ Err kind
-pitch_fault_again line kind (inl (e, none)) = elim (found (form_of line)) [
+pub pitch_fault_again : Fronts → (line : List ℕ) (kind : SclKind) → PitchFault line kind → pitch_of line ≡ Err kind
+pitch_fault_again fronts line kind (inl (e, none)) = elim (found (form_of line)) [
   | inl n ↦ ap entry_if n ∙ (rw e refl)
-  | inr s ↦ absurd (none s.0 (form_takes line s.0 s.1))
+  | inr s ↦ absurd (none s.0 (form_takes fronts line s.0 s.1))
 ]
-pitch_fault_again line kind (inr (form, s, f)) = ap entry_if (form_again line form s) ∙ fault_again form kind f
+pitch_fault_again fronts line kind (inr (form, s, f)) = ap entry_if (form_again fronts line form s) ∙ fault_again form kind f
 
 -- ---- ranges
 
@@ -188,19 +189,19 @@ signed_range : (negative : Bool) (n : ℕ) → n ≤ 1000000999999999 → IsCent
 signed_range true n h = record { low = omega (arith, ints, h); high = omega (arith, ints, h) }
 signed_range false n h = record { low = omega (arith, ints, h); high = omega (arith, ints, h) }
 
-pub value_in_range : (line : List ℕ) (form : Form) (entry : Entry) → Stands line form → IsValue form entry → IsEntry entry
-value_in_range line (InCents negative whole decimals) (Cents n) s (low, e) =
-    let small = billionths_small decimals s.4.1 in
+pub value_in_range : DecimalsAreLow → (line : List ℕ) (form : Form) (entry : Entry) → Stands line form → IsValue form entry → IsEntry entry
+value_in_range low_decimals line (InCents negative whole decimals) (Cents n) s (low, e) =
+    let small = low_decimals decimals s.4.1 in
     subst IsCents (sym e) (signed_range negative _ (omega (arith, low, small)))
-value_in_range line (InCents negative whole decimals) (Ratio a b) s h = absurd h
-value_in_range line (AsRatio true num den) (Ratio a b) s h = absurd h
-value_in_range line (AsRatio true num den) (Cents n) s h = absurd h
-value_in_range line (AsRatio false num den) (Cents n) s h = absurd h
-value_in_range line (AsRatio false num den) (Ratio a b) s h = h.2
-value_in_range line (Alone true num) (Ratio a b) s h = absurd h
-value_in_range line (Alone true num) (Cents n) s h = absurd h
-value_in_range line (Alone false num) (Cents n) s h = absurd h
-value_in_range line (Alone false num) (Ratio a b) s h = h.2
+value_in_range low_decimals line (InCents negative whole decimals) (Ratio a b) s h = absurd h
+value_in_range low_decimals line (AsRatio true num den) (Ratio a b) s h = absurd h
+value_in_range low_decimals line (AsRatio true num den) (Cents n) s h = absurd h
+value_in_range low_decimals line (AsRatio false num den) (Cents n) s h = absurd h
+value_in_range low_decimals line (AsRatio false num den) (Ratio a b) s h = h.2
+value_in_range low_decimals line (Alone true num) (Ratio a b) s h = absurd h
+value_in_range low_decimals line (Alone true num) (Cents n) s h = absurd h
+value_in_range low_decimals line (Alone false num) (Cents n) s h = absurd h
+value_in_range low_decimals line (Alone false num) (Ratio a b) s h = h.2
 
-pub pitch_in_range : (line : List ℕ) (entry : Entry) → IsPitch line entry → IsEntry entry
-pitch_in_range line entry (form, s, v) = value_in_range line form entry s v
+pub pitch_in_range : DecimalsAreLow → (line : List ℕ) (entry : Entry) → IsPitch line entry → IsEntry entry
+pitch_in_range low_decimals line entry (form, s, v) = value_in_range low_decimals line form entry s v

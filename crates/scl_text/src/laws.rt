@@ -7,20 +7,27 @@ ghost use Rattle.scl_text.specs.Spelling.{ScaleText, ScaleFault, PitchFault};
 ghost use Rattle.scl_text.specs.BadPitch.{HasNoForm};
 ghost use Rattle.scl_text.specs.Worked.{four_entries, four_values, bare_negative, three_pitches, crlf};
 
+use scala_lines::laws::{fronts, numbers};
+
 /// Each text has one scale or one first fault, and never both.
 pub fn one_answer()
     ensures either { (lines : List (List ℕ)) → ((entries : List Entry) × ScaleText lines entries) ⊎ ((line : ℕ) × ((kind : SclKind) × ScaleFault lines line kind)) }
     ensures never_both { (lines : List (List ℕ)) (entries : List Entry) (line : ℕ) (kind : SclKind) → ScaleText lines entries → ScaleFault lines line kind → ⊥ }
     ensures one_scale { (lines : List (List ℕ)) (es fs : List Entry) → ScaleText lines es → ScaleText lines fs → es ≡ fs }
     ensures one_fault { (lines : List (List ℕ)) (a b : ℕ) (j k : SclKind) → ScaleFault lines a j → ScaleFault lines b k → (a ≡ b) × (j ≡ k) }
-{}
+{
+    fronts();
+    numbers();
+}
 
 /// A pitch line is bad exactly where, behind the blanks and a minus sign or none, there stands neither a digit nor a
 /// period with a digit after it, or there stand digits and a slash without a digit after it.
 pub fn bad_pitch()
     ensures only { (line : List ℕ) → PitchFault line SclKind.BadPitch → HasNoForm line }
     ensures every { (line : List ℕ) → HasNoForm line → PitchFault line SclKind.BadPitch }
-{}
+{
+    fronts();
+}
 
 /// Texts that the definitions were tried on: four entries with a comment, text behind values and a last line without
 /// LF; the same with CR LF; a last line that is a negative number alone; no last line; no text.

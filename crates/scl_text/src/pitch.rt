@@ -7,6 +7,7 @@ ghost use Rattle.scl_text.specs.Forms.{view_form};
 
 use crate::entry::Entry;
 use crate::fault::SclKind;
+use scala_lines::laws::fronts;
 use scala_lines::{after_blanks, billionths, split_digits, value_within};
 
 /// What is written on a pitch line, digits as they stand there.
@@ -116,6 +117,7 @@ fn cents(negative: bool, whole: &[u8], decimals: &[u8]) -> Result<Entry, SclKind
 pub fn pitch(line: &[u8]) -> Result<Entry, SclKind>
     ensures { result ≡ pitch_of line.now }
 {
+    fronts();
     match form(line) {
         None => Err(SclKind::BadPitch),
         Some(

@@ -12,6 +12,7 @@ use crate::entry::Entry;
 use crate::fault::{SclFault, SclKind};
 use crate::pitch::pitch;
 use crate::scale::Scale;
+use scala_lines::laws::{decimals, fronts, numbers};
 use scala_lines::{Line, Lines, after_blanks, split_digits, value_within};
 use std::alloc::Global;
 
@@ -97,6 +98,9 @@ fn scale(alloc: Global, text: &[u8]) -> Result<Scale, SclFault>
     requires { length text.now ≤ 262144 }
     ensures { Gives (λ scale. scale.entries.items) result (scale_of (lines_of text.now)) }
 {
+    fronts();
+    numbers();
+    decimals();
     let entries = entries_of(alloc, text)?;
     Ok(Scale { entries })
 }
@@ -117,5 +121,7 @@ pub fn read_scl(alloc: Global, text: &[u8]) -> Result<Scale, SclFault>
     // Reading from left to right gives the same.
     ensures exact { Gives (λ scale. scale.entries.items) result (scale_of (lines_of text.now)) }
 {
+    fronts();
+    numbers();
     scale(alloc, text)
 }
