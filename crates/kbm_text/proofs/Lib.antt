@@ -1,3 +1,4 @@
+pub mod Premises
 pub mod Results
 pub mod Entries
 pub mod Fields

@@ -14,6 +14,7 @@ ghost use Rattle.kbm_text.specs.declared.fault.KbmKind.TheVariants.{MissingField
 use crate::fault::{KbmFault, KbmKind};
 use crate::field::{entry, frequency, number};
 use crate::mapping::Mapping;
+use scala_lines::laws::{fronts, numbers};
 use scala_lines::{Line, Lines, after_blanks};
 use std::alloc::Global;
 
@@ -155,6 +156,8 @@ fn mapping(alloc: Global, text: &[u8]) -> Result<Mapping, KbmFault>
     requires { length text.now ≤ 262144 }
     ensures { Gives map_view result (map_of (lines_of text.now)) }
 {
+    fronts();
+    numbers();
     let mut lines = Lines::new(text);
     let size = number_field(&mut lines, KbmKind::SizeRange, 0, 4096)?;
     let keys = keys(&mut lines)?;
@@ -188,5 +191,7 @@ pub fn read_kbm(alloc: Global, text: &[u8]) -> Result<Mapping, KbmFault>
     // Reading from left to right gives the same.
     ensures exact { Gives map_view result (map_of (lines_of text.now)) }
 {
+    fronts();
+    numbers();
     mapping(alloc, text)
 }

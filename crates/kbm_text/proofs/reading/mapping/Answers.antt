@@ -1,10 +1,13 @@
 use Rattle.std.proofs.Common.{arith}
+use Rattle.kbm_text.proofs.Premises.{Fronts, Numbers, fronts_by, numbers_by}
 use Rattle.kbm_text.proofs.Maps.{as_many, degrees}
 use Rattle.kbm_text.proofs.reading.mapping.Goals as goal
 
 pub invariant_of-result : goal.invariant_of-result
 invariant_of-result c =
-    let many = as_many _ _ _ c.in_ok-entries.ensures in
+    let fronts : Fronts = fronts_by c.fronts.ensures.whole c.fronts.ensures.passes c.fronts.ensures.stops c.fronts.ensures.front c.fronts.ensures.behind in
+    let numbers : Numbers = numbers_by c.numbers.ensures.found c.numbers.ensures.none c.numbers.ensures.either in
+    let many = as_many fronts numbers _ _ _ c.in_ok-entries.ensures in
     let n = c.in_ok-entries.entries.ok in
     record {
       in_order = c.in_ok-keys.ensures.in_order;
@@ -15,5 +18,5 @@ invariant_of-result c =
       frequency = c.in_ok-nanohertz.ensures.high;
       octave_degree = c.in_ok-octave.ensures.high;
       few = omega (arith, many, n, c.in_ok-size.ensures.high);
-      degrees = degrees _ _ _ c.in_ok-entries.ensures;
+      degrees = degrees fronts numbers _ _ _ c.in_ok-entries.ensures;
     }
