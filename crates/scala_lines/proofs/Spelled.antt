@@ -1,6 +1,5 @@
 -- The digits that are found behind blanks stand there, and those that stand there are found.
 use Rattle.std.proofs.Common.{◌≡◌, ℕ, ◌<◌, ◌⊎◌, List, [], ◌∷◌, ◌++◌, length, true, false, refl, sym, ap, subst, ◌∙◌, inl, inr, arith}
-use Rattle.std.specs.Prelude.{◌==◌}
 use Rattle.std.proofs.lemmas.Bool.{ne_eqb, leb-true, and_parts, or_from}
 use Rattle.scala_lines.specs.Characters.{is_digit, is_blank, front, StopsAt, digits_of, after_digits, after_blanks}
 use Rattle.scala_lines.specs.Spelling.{IsNumber, HasDigits, HasNoDigit, number_of}
@@ -52,10 +51,3 @@ digits_or_none line = pick (number_of line) refl
     pick : (digits : List ℕ) → number_of line ≡ digits → ((ds : List ℕ) × HasDigits line ds) ⊎ HasNoDigit line
     pick [] e = inr (no_digits line e)
     pick (d ∷ ds) e = inl (d ∷ ds, some_digits line (d ∷ ds) e (omega arith))
-
--- digits are not none
-pub long : (digits : List ℕ) → 0 < length digits → (length digits == 0) ≡ false
-long digits some = ne_eqb (length digits) 0 (λ e. omega (arith, some, e))
-
-pub is_number : (line digits : List ℕ) → HasDigits line digits → IsNumber digits
-is_number line digits (blanks, rest, b, n, s, e) = n
