@@ -22,4 +22,3 @@ pub mod Played
 pub mod Pedals
 pub mod Struck
 pub mod Stepping
-pub mod Few

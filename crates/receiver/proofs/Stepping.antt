@@ -1,5 +1,5 @@
 -- What stands for a list of events stands, after one more event, for the list with that event at its end.
-use Rattle.std.proofs.Common.{◌≡◌, ◌<◌, ◌+◌, ◌++◌, ◌&&◌, ◌||◌, not, ℕ, suc, List, [], ◌∷◌, Bool, true, false, cond, Option, None, is_some, refl, ap, sym, ◌∙◌, set, get_or, length, add-one}
+use Rattle.std.proofs.Common.{arith, ◌≤◌, ◌≡◌, ◌<◌, ◌+◌, ◌++◌, ◌&&◌, ◌||◌, not, ℕ, suc, List, [], ◌∷◌, Bool, true, false, cond, Option, None, is_some, refl, ap, sym, ◌∙◌, set, get_or, length, add-one}
 use Rattle.std.proofs.lemmas.List.{set-get_or}
 use Rattle.mt_base.specs.Midi.{MidiEvent}
 use Rattle.mt_base.specs.declared.event.Msg.{Msg}
@@ -108,6 +108,11 @@ same_set_up r es h = ap (λ ss. set_up ss (set_up_of r).zones) h.channels ∙ ap
 more : (b : Bool) (n k : ℕ) → n ≡ k → cond b (n + 1) n ≡ cond b (suc k) k
 more true n k e = add-one n ∙ ap suc e
 more false n k e = e
+
+-- no event begins more than one note
+pub one_more : (b : Bool) (n : ℕ) → cond b (n + 1) n ≤ n + 1
+one_more true n = omega arith
+one_more false n = omega arith
 
 -- the note of a key
 slot_then : (r s : Receiver) (t : ℕ) (es : List MidiEvent) (e : MidiEvent) → Stands r es → FollowsBy r t (doing e.what) s → e.tick ≡ t → AtMostOne (after es).music.notes

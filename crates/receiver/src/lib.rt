@@ -2,7 +2,6 @@
 //! sizes are fixed, and nothing here takes memory.
 #![tactic(auto)]
 
-mod counting;
 mod ends;
 mod keys;
 mod note;
@@ -19,7 +18,6 @@ mod tunings;
 mod turn;
 mod zones;
 
-pub use counting::no_more_notes_than_events;
 pub use ends::Ends;
 pub use note::Note;
 pub use param::Param;

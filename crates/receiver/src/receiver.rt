@@ -117,7 +117,8 @@ impl Receiver {
 
     /// A receiver before any event: all channels have their defaults, and nothing sounds.
     pub fn new() -> Receiver
-        ensures { Stands result [] }
+        ensures stands { Stands result [] }
+        ensures begun { begun_in result ≡ 0 }
     {
         Receiver {
             channels: [
@@ -523,13 +524,15 @@ impl Receiver {
         }
     }
 
-    /// Takes an event at its tick, and tells which notes ended by it.
+    /// Takes an event at its tick, and tells which notes ended by it. The event has room, and fewer than
+    /// 4,294,967,295 notes began before it.
     pub fn step(&mut self, tick: u32, what: &What<'_>) -> Ends
         requires valid { IsValidWhat (view_what what.now) }
         requires room { HasRoom self.old (view_what what.now) }
         requires few { begun_in self.old < 4294967295 }
         ensures stands { (es : List MidiEvent) (e : MidiEvent) → Stands self.old es → e.tick ≡ tick → e.what ≡ view_what what.now → Stands self.new (es ++ e ∷ []) }
         ensures ends { (es : List MidiEvent) (e : MidiEvent) → Stands self.old es → e.tick ≡ tick → e.what ≡ view_what what.now → (c k : ℕ) → c < 16 → k < 128 → has (slice_index result.keys c) k ≡ ended_on c k (after es).music.notes (after (es ++ e ∷ [])).music.notes }
+        ensures begun { begun_in self.new ≤ begun_in self.old + 1 }
     {
         receiver_laws();
         let before = self.sounding_keys();
@@ -537,7 +540,7 @@ impl Receiver {
         self.ended(before, what)
     }
 
-    /// The note that sounds on a key.
+    /// The note that sounds on a key, 0 to 127.
     pub fn sounding(&self, channel: Channel, key: u8) -> Option<Note>
         requires { key ≤ 127 }
         ensures { (es : List MidiEvent) → Stands self.now es → result ≡ option_map told (sounding_at (after es).music.notes channel key) }
@@ -558,7 +561,7 @@ impl Receiver {
         }
     }
 
-    /// The pitch of the note that sounds on a key, in grains above key 0.
+    /// The pitch of the note that sounds on a key, 0 to 127, in grains above key 0.
     pub fn played(&self, channel: Channel, key: u8) -> Option<Grain>
         requires { key ≤ 127 }
         ensures { (es : List MidiEvent) → Stands self.now es → option_map (λ g. g.0) result ≡ option_map (λ x. played (after es) x.1) (sounding_at (after es).music.notes channel key) }
@@ -572,7 +575,7 @@ impl Receiver {
         Some(Grain(tuned + governor.fine() + governor.coarse() + self.bends(channel)))
     }
 
-    /// The state of a channel.
+    /// The state of a channel, with the pressures of its keys and its tuning program.
     pub fn state(&self, channel: Channel) -> &ChannelState
         ensures own { (es : List MidiEvent) → Stands self.now es → own_of result.now ≡ channel_at (after es).music channel }
         ensures keys { (es : List MidiEvent) → Stands self.now es → result.now.keys.items ≡ key_pressures (after es).music.notes channel 0 128 }

@@ -1,7 +1,7 @@
-ghost use Rattle.std.specs.Prelude.{◌≡◌, List, IsTrue, length};
-ghost use Rattle.mt_base.specs.Midi.{MidiEvent, view_what};
+ghost use Rattle.std.specs.Prelude.{◌≤◌, IsTrue};
+ghost use Rattle.mt_base.specs.Midi.{view_what};
 ghost use Rattle.mt_base.specs.Valid.{IsValidWhat};
-ghost use Rattle.receiver.specs.Stands.{Stands};
+ghost use Rattle.receiver.specs.Stands.{begun_in};
 
 use crate::{Ends, Receiver};
 use mt_base::{Channel, Msg, What};
@@ -92,12 +92,12 @@ fn is_valid(what: &What<'_>) -> bool
     }
 }
 
-/// A receiver and how many events it took, from which it follows that not too many notes began.
+/// A receiver and how many events it took: no fewer than notes began.
 #[derive(Drop)]
 pub struct Player {
     pub receiver: Receiver,
     taken: u32,
-    pub ghost stands: { ∥ ((es : List MidiEvent) × Stands receiver es × (length es ≡ taken)) ∥₁ },
+    pub ghost few: { begun_in receiver ≤ taken },
 }
 
 impl Player {

@@ -4,8 +4,8 @@ use Rattle.receiver.proofs.Channels.{AreFresh, ◌also◌, fresh_states, fresh_s
 use Rattle.receiver.proofs.Limit.{few_defaults}
 use Rattle.receiver.proofs.receiver.Receiver.new.Goals as goal
 
-pub returns : goal.returns
-returns c =
+pub returns-clause-stands : goal.returns-clause-stands
+returns-clause-stands c =
     let xs : List Playing = c.new.result ∷ c.new-2.result ∷ c.new-3.result ∷ c.new-4.result ∷ c.new-5.result ∷ c.new-6.result
     ∷ c.new-7.result ∷ c.new-8.result ∷ c.new-9.result ∷ c.new-10.result ∷ c.new-11.result
     ∷ c.new-12.result ∷ c.new-13.result ∷ c.new-14.result ∷ c.new-15.result ∷ c.new-16.result ∷ [] in

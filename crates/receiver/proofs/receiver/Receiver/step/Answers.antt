@@ -1,9 +1,9 @@
-use Rattle.std.proofs.Common.{◌∙◌, ◌&&◌, ◌||◌, not, ap, sym, is_some, subst}
+use Rattle.std.proofs.Common.{arith, ◌∙◌, ◌&&◌, ◌||◌, not, ap, sym, is_some, subst}
 use Rattle.mt_base.specs.Midi.{MidiWhat, view_what}
 use Rattle.midi_model.specs.Sysex.{doing}
 use Rattle.receiver.specs.Stands.{HasRoom, FollowsBy, slot}
-use Rattle.receiver.specs.Turns.{strikes}
-use Rattle.receiver.proofs.Stepping.{stands_then, ended_then}
+use Rattle.receiver.specs.Turns.{strikes, begins}
+use Rattle.receiver.proofs.Stepping.{stands_then, ended_then, one_more}
 use Rattle.receiver.proofs.receiver.Receiver.step.Goals as goal
 
 pub returns-clause-stands : goal.returns-clause-stands
@@ -20,3 +20,6 @@ returns-clause-ends c es e h at is d k dl kl =
     ∙ ap (λ b. b && (strikes (doing (view_what c.args.what.now)) d k || not (is_some (slot s d k)))) (c.sounding_keys-before.ensures d k dl kl)
     ∙ ap (λ w. is_some (slot c.args.self.now d k) && (strikes (doing w) d k || not (is_some (slot s d k)))) (sym is)
     ∙ ended_then c.args.self.now s c.args.tick es e h (subst followed (sym is) c.follow.ensures) at (c.receiver_laws.ensures.one_note es) d k dl kl
+
+pub returns-clause-begun : goal.returns-clause-begun
+returns-clause-begun c = omega (arith, c.follow.ensures.begun, one_more (begins (doing (view_what c.args.what.now))) c.args.self.now.begun)
