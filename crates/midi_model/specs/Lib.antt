@@ -19,4 +19,5 @@ pub mod Played
 pub mod Bring
 pub mod Order
 pub mod Writing
+pub mod WritingLaws
 pub mod FileExamples

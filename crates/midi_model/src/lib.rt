@@ -7,6 +7,7 @@ mod params;
 mod receiver;
 mod text;
 mod worked;
+mod writing;
 
 pub use fault::{SmfKind, Stop};
 pub use order::{merged_example, merged_order};
@@ -17,3 +18,4 @@ pub use receiver::{
 };
 pub use text::file_laws;
 pub use worked::file_examples;
+pub use writing::writing_laws;
