@@ -1,11 +1,11 @@
 -- Parts that are appended one after the other.
-use Rattle.std.proofs.Common.{◌≡◌, ℕ, ◌+◌, ◌^◌, ◌<◌, ◌≤◌, ◌⊎◌, inl, inr, List, [], ◌∷◌, ◌++◌, length, map, drop, get_or, refl, sym, ap, ◌∙◌, append_assoc, arith}
+use Rattle.std.proofs.Common.{◌≡◌, ℕ, ◌+◌, ◌^◌, ◌<◌, ◌≤◌, ◌⊎◌, inl, inr, List, [], ◌∷◌, ◌++◌, length, map, drop, get_or, false, refl, sym, ap, ◌∙◌, append_assoc, arith}
 use Rattle.std.proofs.lemmas.List.{append-nil, drop_more, drop_all, length-append, length-map}
 use Rattle.std.proofs.lemmas.Simd.{map-map}
 use Rattle.std.specs.List.{All}
 use Rattle.std.proofs.lemmas.List.Elements.{All-head, All-tail, All-nil, All-cons, All-same}
 use Rattle.mt_base.specs.Midi.{Timed}
-use Rattle.midi_model.specs.Writing.{Written, written, chunk_bytes, chunks_bytes, header_bytes, file_bytes, IsWritable, IsWritableFile}
+use Rattle.midi_model.specs.Writing.{Written, written, events_bytes, last_tick, last_running, is_ended, chunk_bytes, chunks_bytes, header_bytes, file_bytes, IsWritable, IsWritableFile}
 
 pub five_parts : (out o1 o2 o3 o4 o5 a b c d e a2 b2 c2 d2 e2 : List ℕ)
     → o1 ≡ out ++ a2 → o2 ≡ o1 ++ b2 → o3 ≡ o2 ++ c2 → o4 ≡ o3 ++ d2 → o5 ≡ o4 ++ e2
@@ -14,6 +14,11 @@ pub five_parts : (out o1 o2 o3 o4 o5 a b c d e a2 b2 c2 d2 e2 : List ℕ)
 five_parts out o1 o2 o3 o4 o5 a b c d e a2 b2 c2 d2 e2 h1 h2 h3 h4 h5 i1 i2 i3 i4 i5 =
     let all : o5 ≡ (((out ++ a) ++ b) ++ c) ++ d ++ e = cc in
     all ∙ append_assoc (((out ++ a) ++ b) ++ c) d e ∙ append_assoc ((out ++ a) ++ b) c (d ++ e) ∙ append_assoc (out ++ a) b (c ++ (d ++ e)) ∙ append_assoc out a (b ++ (c ++ (d ++ e)))
+
+-- what stands for no events
+pub nothing_written : record { bytes = []; tick = 0; running = 0; ended = false } ≡ written []
+unfolding events_bytes last_tick last_running is_ended
+nothing_written = refl
 
 -- how long both parts together are
 pub grown : (old new head content head2 content2 : List ℕ) (most : ℕ) → new ≡ old ++ (head ++ content) → head ≡ head2 → content ≡ content2 → length head2 + length content2 ≤ most → length new ≤ length old + most

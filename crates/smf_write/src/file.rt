@@ -5,6 +5,7 @@ ghost use Rattle.midi_model.specs.Spelling.{Spells};
 ghost use Rattle.midi_model.specs.Writing.{Written, written, header_bytes, chunk_bytes, file_bytes, IsWritable};
 
 use crate::text::TrackText;
+use midi_model::writing_laws;
 use mt_base::Memory;
 use std::alloc::Global;
 
@@ -35,6 +36,7 @@ pub fn finish(
     ensures bytes { (ts : List (List Timed)) → tracks.items ≡ map written ts → IfOk result (λ v. v.items ≡ file_bytes (record { format = format; division = division; tracks = ts })) }
     ensures spells { (ts : List (List Timed)) → tracks.items ≡ map written ts → All (IsWritable 0) ts → IfOk result (λ v. Spells v.items (record { format = format; division = division; tracks = ts })) }
 {
+    writing_laws();
     let mut out = Vec::with_capacity(alloc, file_len(&tracks))?;
     push_header(&mut out, format, tracks.len() as u16, division)?;
     for track in &tracks {

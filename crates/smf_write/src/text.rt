@@ -4,6 +4,7 @@ ghost use Rattle.mt_base.specs.Valid.{IsValidWhat};
 ghost use Rattle.midi_model.specs.Writing.{written, with_event, most_bytes};
 
 use crate::event::{content, head, is_last, running};
+use midi_model::writing_laws;
 use mt_base::{Memory, What};
 use std::alloc::Global;
 use std::marker::Model;
@@ -83,6 +84,7 @@ impl TrackText {
         ensures grows { length self.new.bytes ≤ length self.old.bytes + most_bytes (view_what what.now) }
         ensures unchanged { OnErr result (self.new ≡ self.old) }
     {
+        writing_laws();
         let head = head(tick - self.tick, self.running, what);
         append(&mut self.bytes, head.as_slice(), content(what))?;
         self.tick = tick;

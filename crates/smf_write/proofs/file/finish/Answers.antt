@@ -1,5 +1,4 @@
 use Rattle.std.proofs.Common.{◌≡◌, ◌∙◌, sym, arith, List, map, subst, ℕ}
-use Rattle.midi_model.proofs.Spelt.{spelt_file}
 use Rattle.midi_model.specs.FileText.{MidiFile}
 use Rattle.midi_model.specs.Spelling.{Spells}
 use Rattle.midi_model.specs.Writing.{written, file_bytes}
@@ -20,5 +19,5 @@ returns c = record {
   spells = λ ts is writable.
       let file : MidiFile = record { format = c.args.format; division = c.args.division; tracks = ts } in
       subst (λ (bytes : List ℕ). Spells bytes file) (sym (written_all c ts is))
-      (spelt_file file (is_writable c.args.format c.args.division c.args.tracks.items ts is c.requires.one_or_more c.requires.few c.requires.short c.requires.formats (omega (arith, c.ranges.division)) writable));
+      (c.writing_laws.ensures.spells file (is_writable c.args.format c.args.division c.args.tracks.items ts is c.requires.one_or_more c.requires.few c.requires.short c.requires.formats (omega (arith, c.ranges.division)) writable));
 }

@@ -1,6 +1,6 @@
 use Rattle.std.proofs.Common.{List, ℕ, ◌∙◌, ap, false}
 use Rattle.midi_model.specs.Writing.{Written}
-use Rattle.midi_model.proofs.Writes.{nothing_written}
+use Rattle.smf_write.proofs.Parts.{nothing_written}
 use Rattle.smf_write.proofs.text.TrackText.new.Goals as goal
 
 empty : List ℕ → Written

@@ -1,7 +1,6 @@
 use Rattle.std.proofs.Common.{rules, ◌≡◌, ◌∙◌, ap, ◌++◌}
 use Rattle.mt_base.specs.Midi.{view_what, Timed}
 use Rattle.midi_model.specs.Writing.{Written, with_event}
-use Rattle.midi_model.proofs.Writes.{written-append}
 use Rattle.smf_write.proofs.Parts.{grown}
 use Rattle.smf_write.proofs.text.TrackText.put.Goals as goal
 
@@ -11,7 +10,7 @@ returns-clause-appended c = grind (rules)
 pub returns-clause-stands : goal.returns-clause-stands
 returns-clause-stands c es is =
     let e : Timed = record { tick = c.args.tick; what = view_what c.args.what.now } in
-    returns-clause-appended c ∙ ap (λ (w : Written). with_event w e) is ∙ written-append es e
+    returns-clause-appended c ∙ ap (λ (w : Written). with_event w e) is ∙ c.writing_laws.ensures.appended es e
 
 appended_bytes : (c : goal.After-self-3-1) → c.append.new.bytes.items ≡ c.args.self.now.bytes ++ (c.as_slice.result.now ++ c.content.result.now)
 appended_bytes c = grind (rules, c.in_ok-append.ensures.appended, c.self.view_is)
