@@ -9,6 +9,7 @@ use Rattle.smf_read.specs.declared.cursor.Cursor.{Cursor}
 use Rattle.smf_read.specs.Remaining.{remaining, all_of}
 use Rattle.event_stream.specs.Keys.{key_of, keys_of}
 use Rattle.event_stream.specs.Merges.{AreParts, untracked, parts_left, whole_parts, merged_left, IsMerge}
+use Rattle.event_stream.proofs.Ordering.{FirstIsTaken}
 use Rattle.event_stream.proofs.Parts.{take_set, parts_without, length_keys, key_at, keys_set, Found, found, takes_found, none_found, placed_from, length_placed, untracked_placed, parts_of_tracks}
 
 -- ---- loops over cursors
@@ -117,14 +118,14 @@ next_of (Some e) head tail old new first more go some is o n =
     let both = same_tail first (view e) more tail (sym is ∙ some) in
     o ∙ ap (λ x. x ∷ go more) both.0 ∙ ap (λ l. view e ∷ go l) both.1 ∙ ap (λ l. view e ∷ l) (sym n)
 
-pub rest_next : (tracks t key : ℕ) (old new : List Cursor) (numbers : List ℕ) (taken : Option Event) (tail : List MidiEvent) → IsMerge tracks old numbers key → Found key t (parts_left tracks old) → Stepped t old new taken tail
+pub rest_next : FirstIsTaken → (tracks t key : ℕ) (old new : List Cursor) (numbers : List ℕ) (taken : Option Event) (tail : List MidiEvent) → IsMerge tracks old numbers key → Found key t (parts_left tracks old) → Stepped t old new taken tail
     → IfSome taken (λ e. merged_left tracks old ≡ view e ∷ merged_left tracks new)
-rest_next tracks t key old new numbers taken tail m f s =
+rest_next first_is tracks t key old new numbers taken tail m f s =
     let lt = found_in tracks old numbers key t m f in
     let parts = parts_left tracks old in
     let few : length parts ≤ 1024 = omega (arith, m.few, few_parts tracks old numbers key m) in
     next_of taken (get_or (map remaining old) t []) tail (merged_left tracks old) (merged_left tracks new) f.first f.more (λ es. merged_tracks (untracked (set parts t es))) s.some (head_at tracks t old lt ∙ f.head)
-    (takes_found key t numbers parts m.keys few m.left m.least f)
+    (takes_found first_is key t numbers parts m.keys few m.left m.least f)
     (ap (λ l. merged_tracks (untracked l)) (parts_after tracks t old new tail s.others))
 
 none_of : (P : Type 0) (taken : Option Event) (head : List MidiEvent) (first : MidiEvent) (more : List MidiEvent) → IfNone taken (head ≡ []) → head ≡ first ∷ more → IfNone taken P

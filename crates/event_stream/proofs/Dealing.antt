@@ -6,9 +6,9 @@ use Rattle.std.proofs.lemmas.List.{append-nil, map-append, ext_get_or}
 use Rattle.std.proofs.lemmas.List.Elements.{filter-append}
 use Rattle.mt_base.specs.Midi.{Timed, MidiEvent, placed}
 use Rattle.midi_model.specs.Merged.{merged_tracks, InOrder, of_track, timed}
-use Rattle.midi_model.proofs.Merging.{Before, before, each_weaker, each_cond, of_track_merged}
 use Rattle.event_stream.specs.Distributed.{events_in, distributed_from, distributed}
 use Rattle.event_stream.specs.Keys.{AreInOrder}
+use Rattle.event_stream.proofs.Ordering.{FirstIsTaken, TrackIsKept, Before, before, each_weaker, each_cond}
 use Rattle.event_stream.proofs.Taking.{ComesBefore, IsFirst, takes, merged_empty}
 
 -- ---- the events of one track
@@ -35,7 +35,7 @@ timed_placed t (e ∷ es) = ap (λ l. e ∷ l) (timed_placed t es)
 
 pub each_picked : (p : MidiEvent → Bool) (P : MidiEvent → Type 0) (es : List MidiEvent) → AllByRecursion P es → AllByRecursion P (filter p es)
 each_picked p P [] h = tt
-each_picked p P (e ∷ es) h = each_cond P (p e) _ _ (λ _. (h.0, each_picked p P es h.1)) (λ _. each_picked p P es h.1)
+each_picked p P (e ∷ es) h = each_cond P (p e) _ _ (h.0, each_picked p P es h.1) (each_picked p P es h.1)
 
 in_order_cond : (b : Bool) (xs ys : List MidiEvent) → InOrder xs → InOrder ys → InOrder (cond b xs ys)
 in_order_cond true xs ys h k = h
@@ -91,16 +91,16 @@ none_dealt n zero = tt
 none_dealt n (suc m) = (refl, none_dealt (suc n) m)
 
 -- What was dealt out, merged, is the list again.
-pub merged_again : (n : ℕ) (es : List MidiEvent) → InOrder es → AllByRecursion (λ e. e.track < n) es → merged_tracks (distributed n es) ≡ es
-merged_again n [] h k = merged_empty (distributed n []) (none_dealt 0 n)
-merged_again n (e ∷ es) h k =
+pub merged_again : FirstIsTaken → (n : ℕ) (es : List MidiEvent) → InOrder es → AllByRecursion (λ e. e.track < n) es → merged_tracks (distributed n es) ≡ es
+merged_again taken n [] h k = merged_empty (distributed n []) (none_dealt 0 n)
+merged_again taken n (e ∷ es) h k =
     let ts = distributed n (e ∷ es) in
     let len = length_dealt 0 n (e ∷ es) in
     let head = get_dealt 0 n e.track e.track (e ∷ es) (omega arith) k.0 ∙ is_in e.track e es refl in
     let first = is_first e 0 n (e ∷ es) (inr (refl, omega arith), each_weaker _ _ es (before e) h.0) in
-    takes e.track (timed e) (events_in e.track es) ts (omega (arith, len, k.0)) head first (dealt_in_order 0 n (e ∷ es) h)
+    takes taken e.track (timed e) (events_in e.track es) ts (omega (arith, len, k.0)) head first (dealt_in_order 0 n (e ∷ es) h)
     ∙ ap (λ l. e ∷ merged_tracks l) (without_first 0 n e.track e es (omega arith) k.0)
-    ∙ ap (λ l. e ∷ l) (merged_again n es h.1 k.1)
+    ∙ ap (λ l. e ∷ l) (merged_again taken n es h.1 k.1)
 
 in_order_at : (n i t : ℕ) (ts : List (List Timed)) → t ≡ n + i → AreInOrder n ts → InOrder (map (placed t) (get_or ts i []))
 in_order_at n i t [] is h = tt
@@ -108,12 +108,12 @@ in_order_at n zero t (es ∷ ts) is h = let e : n ≡ t = omega (arith, is) in s
 in_order_at n (suc i) t (es ∷ ts) is h = in_order_at (suc n) i t ts (omega (arith, is)) h.1
 
 -- What was merged, dealt out, is the tracks again.
-pub dealt_again : (ts : List (List Timed)) → AreInOrder 0 ts → distributed (length ts) (merged_tracks ts) ≡ ts
-dealt_again ts h =
+pub dealt_again : TrackIsKept → (ts : List (List Timed)) → AreInOrder 0 ts → distributed (length ts) (merged_tracks ts) ≡ ts
+dealt_again kept ts h =
     let len = length_dealt 0 (length ts) (merged_tracks ts) in
     ext_get_or [] (distributed (length ts) (merged_tracks ts)) ts len (λ i lt.
     get_dealt 0 (length ts) i i (merged_tracks ts) (omega arith) (omega (arith, lt, len))
-    ∙ ap (map timed) (of_track_merged i ts (in_order_at 0 i i ts (omega arith) h))
+    ∙ ap (map timed) (kept i (record { format = 0; division = 0; tracks = ts }) (in_order_at 0 i i ts (omega arith) h))
     ∙ timed_placed i (get_or ts i []))
 
 -- ---- an event at the end

@@ -1,3 +1,4 @@
+pub mod Ordering
 pub mod Taking
 pub mod Dealing
 pub mod Trees

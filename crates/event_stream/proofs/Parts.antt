@@ -7,9 +7,9 @@ use Rattle.std.proofs.lemmas.List.Elements.{recursion_from_All}
 use Rattle.mt_base.specs.Midi.{Timed, MidiEvent, placed}
 use Rattle.mt_base.specs.Valid.{IsValidEvent}
 use Rattle.midi_model.specs.Merged.{InOrder, AreTracksOf, merged_tracks, first_tick, timed}
-use Rattle.midi_model.proofs.Merging.{each_weaker}
 use Rattle.event_stream.specs.Keys.{key_of, keys_of, AreInOrder}
 use Rattle.event_stream.specs.Merges.{IsPart, AreParts, untracked}
+use Rattle.event_stream.proofs.Ordering.{FirstIsTaken, each_weaker}
 use Rattle.event_stream.proofs.Taking.{takes, first_by_key, merged_empty}
 use Rattle.event_stream.proofs.Dealing.{back_in_place, timed_placed}
 
@@ -105,9 +105,9 @@ found key t numbers parts is few among not same =
     (sym c.2 ∙ key_at 0 k k key (untracked parts) (omega arith) lt ∙ ap (key_of k) (get_or-map (map timed) parts k [] [] lt2)) not same
 
 -- The merged order of what is left begins with the event of the least key, and goes on without it.
-pub takes_found : (key t : ℕ) (numbers : List ℕ) (parts : List (List MidiEvent)) → numbers ≡ keys_of 0 (untracked parts) → length parts ≤ 1024 → AreParts 0 parts → All (λ (k : ℕ). key ≤ k) numbers → (f : Found key t parts)
+pub takes_found : FirstIsTaken → (key t : ℕ) (numbers : List ℕ) (parts : List (List MidiEvent)) → numbers ≡ keys_of 0 (untracked parts) → length parts ≤ 1024 → AreParts 0 parts → All (λ (k : ℕ). key ≤ k) numbers → (f : Found key t parts)
     → merged_tracks (untracked parts) ≡ f.first ∷ merged_tracks (untracked (set parts t f.more))
-takes_found key t numbers parts is few h least f =
+takes_found taken key t numbers parts is few h least f =
     let ts = untracked parts in
     let lt : t < length ts = omega (arith, f.within, length-map parts (map timed)) in
     let part = subst (IsPart t) f.head (part_at 0 t t parts (omega arith) h) in
@@ -116,7 +116,7 @@ takes_found key t numbers parts is few h least f =
     let all = recursion_from_All _ (keys_of 0 ts) (subst (All (λ (k : ℕ). key ≤ k)) is least) in
     let low : AllByRecursion (λ (k : ℕ). f.first.tick * 65536 + t ≤ k) (keys_of 0 ts) = subst (λ n. AllByRecursion (λ (k : ℕ). n ≤ k) (keys_of 0 ts)) f.is_key all in
     let first = first_by_key (placed t (timed f.first)) 0 ts (omega (arith, few, length-map parts (map timed))) low in
-    takes t (timed f.first) (map timed f.more) ts lt head first (parts_in_order 0 parts h)
+    takes taken t (timed f.first) (map timed f.more) ts lt head first (parts_in_order 0 parts h)
     ∙ ap (λ e. e ∷ merged_tracks (set ts t (map timed f.more))) here
     ∙ ap (λ l. f.first ∷ merged_tracks l) (sym (map-set (map timed) parts t f.more))
 

@@ -9,9 +9,9 @@ use Rattle.mt_base.specs.Midi.{MidiEvent, is_end}
 use Rattle.mt_base.specs.Valid.{IsValidEvent}
 use Rattle.midi_model.specs.Merged.{precedes, InOrder, EndsOnce, of_track, IsPlayable, timed}
 use Rattle.midi_model.specs.Writing.{Written, written, with_event, last_tick, is_ended}
-use Rattle.midi_model.proofs.Merging.{before}
-use Rattle.midi_model.proofs.Writes.{written-append}
+use Rattle.midi_model.specs.WritingLaws.{EventIsAppended}
 use Rattle.event_stream.specs.Distributed.{events_in, distributed_from, distributed, MayPut, all_bytes}
+use Rattle.event_stream.proofs.Ordering.{before}
 use Rattle.event_stream.proofs.Taking.{no_earlier}
 use Rattle.event_stream.proofs.Dealing.{length_dealt, get_dealt, with_last, each_picked}
 
@@ -27,19 +27,28 @@ track_text : (n t : ℕ) (es : List MidiEvent) → t < n → get_or (map written
 track_text n t es lt =
     get_or-map written (distributed n es) t [] (written []) (omega (arith, length_dealt 0 n es, lt)) ∙ ap written (get_dealt 0 n t t es (omega arith) lt)
 
-pub put_last : (n : ℕ) (es : List MidiEvent) (e : MidiEvent) (before : List Written) → before ≡ map written (distributed n es) → e.track < length before
-    → set before e.track (with_event (get_or before e.track (written [])) (timed e)) ≡ map written (distributed n (es ++ e ∷ []))
-put_last n es e before is lt =
+-- the text of an event's track, where the set stands for a list
+pub text_of : (n : ℕ) (es : List MidiEvent) (e : MidiEvent) (before : List Written) (got : Written) → before ≡ map written (distributed n es) → e.track < length before
+    → got ≡ get_or before e.track (written []) → got ≡ written (events_in e.track es)
+text_of n es e before got is lt read =
     let low : e.track < n = omega (arith, lt, ap length is, length-map (distributed n es) written, length_dealt 0 n es) in
-    subst (λ w. set w e.track (with_event (get_or w e.track (written [])) (timed e)) ≡ map written (distributed n (es ++ e ∷ []))) (sym is)
-    (ap (λ w. set (map written (distributed n es)) e.track (with_event w (timed e))) (track_text n e.track es low)
-    ∙ ap (set (map written (distributed n es)) e.track) (written-append (events_in e.track es) (timed e))
-    ∙ sym (map-set written (distributed n es) e.track (events_in e.track es ++ timed e ∷ []))
-    ∙ ap (map written) (sym (with_last 0 n e.track e es (omega arith) low)))
+    read ∙ ap (λ w. get_or w e.track (written [])) is ∙ track_text n e.track es low
 
-pub put_stands : (n : ℕ) (es : List MidiEvent) (e : MidiEvent) (before : List Written) (got text : Written) → before ≡ map written (distributed n es) → e.track < length before
-    → got ≡ get_or before e.track (written []) → text ≡ with_event got (timed e) → set before e.track text ≡ map written (distributed n (es ++ e ∷ []))
-put_stands n es e before got text is lt read put = ap (set before e.track) (put ∙ ap (λ w. with_event w (timed e)) read) ∙ put_last n es e before is lt
+pub put_stands : (n : ℕ) (es : List MidiEvent) (e : MidiEvent) (before : List Written) (text : Written) → before ≡ map written (distributed n es) → e.track < length before
+    → text ≡ written (events_in e.track es ++ timed e ∷ []) → set before e.track text ≡ map written (distributed n (es ++ e ∷ []))
+put_stands n es e before text is lt put =
+    let low : e.track < n = omega (arith, lt, ap length is, length-map (distributed n es) written, length_dealt 0 n es) in
+    ap (λ w. set w e.track text) is
+    ∙ ap (set (map written (distributed n es)) e.track) put
+    ∙ sym (map-set written (distributed n es) e.track (events_in e.track es ++ timed e ∷ []))
+    ∙ ap (map written) (sym (with_last 0 n e.track e es (omega arith) low))
+
+-- by the law that an event more is written at the end
+pub put_last : EventIsAppended → (n : ℕ) (es : List MidiEvent) (e : MidiEvent) (before : List Written) → before ≡ map written (distributed n es) → e.track < length before
+    → set before e.track (with_event (get_or before e.track (written [])) (timed e)) ≡ map written (distributed n (es ++ e ∷ []))
+put_last appended n es e before is lt =
+    let text = text_of n es e before (get_or before e.track (written [])) is lt refl in
+    put_stands n es e before (with_event (get_or before e.track (written [])) (timed e)) is lt (ap (λ w. with_event w (timed e)) text ∙ appended (events_in e.track es) (timed e))
 
 -- ---- a playable list
 

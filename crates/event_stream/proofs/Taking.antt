@@ -4,8 +4,8 @@ use Rattle.std.specs.List.{AllByRecursion}
 use Rattle.std.proofs.lemmas.Bool.{le-ltb, ne_eqb, cases_order}
 use Rattle.mt_base.specs.Midi.{Timed, MidiEvent, placed}
 use Rattle.midi_model.specs.Merged.{precedes, sorted, one_by_one, merged_tracks, InOrder}
-use Rattle.midi_model.proofs.Merging.{Before, before, is_before, goes_through, each_weaker, each_append, takes_first}
 use Rattle.event_stream.specs.Keys.{key_of, keys_of, AreInOrder}
+use Rattle.event_stream.proofs.Ordering.{FirstIsTaken, Before, before, is_before, goes_through, each_weaker, each_append}
 
 -- an event comes before what is left of a track, or is its first
 abbrev pub ComesBefore : MidiEvent → ℕ → List Timed → Type 0
@@ -87,11 +87,11 @@ parted n (suc i) t e es (fs ∷ ts) is lt head h k =
     in_front_of n i (placed t e) es fs ts (omega (arith, is)) h.0 k.0 (parted (suc n) i t e es ts (omega (arith, is)) (omega (arith, lt)) head h.1 k.1)
 
 -- The merged order begins with the first of what is left of each track, and goes on without it.
-pub takes : (i : ℕ) (e : Timed) (es : List Timed) (ts : List (List Timed)) → i < length ts → get_or ts i [] ≡ e ∷ es → IsFirst (placed i e) 0 ts → AreInOrder 0 ts
+pub takes : FirstIsTaken → (i : ℕ) (e : Timed) (es : List Timed) (ts : List (List Timed)) → i < length ts → get_or ts i [] ≡ e ∷ es → IsFirst (placed i e) 0 ts → AreInOrder 0 ts
     → merged_tracks ts ≡ placed i e ∷ merged_tracks (set ts i es)
-takes i e es ts lt head h k =
+takes taken i e es ts lt head h k =
     let p = parted 0 i i e es ts (omega arith) lt head h k in
-    ap sorted p.whole ∙ takes_first p.front (placed i e) p.back p.front_later p.back_follows ∙ ap (λ l. placed i e ∷ sorted l) (sym p.without)
+    ap sorted p.whole ∙ taken p.front (placed i e) p.back p.front_later p.back_follows ∙ ap (λ l. placed i e ∷ sorted l) (sym p.without)
 
 -- ---- what is left stays in order
 

@@ -6,12 +6,16 @@ ghost use Rattle.midi_model.specs.Writing.{written};
 ghost use Rattle.event_stream.specs.Distributed.{distributed, MayPut};
 ghost use Rattle.event_stream.specs.Keys.{AreInOrder};
 
+use midi_model::merged_order;
+
 /// Merging and distribution undo each other: what was dealt out to tracks and merged is the list
 /// again, and what was merged and dealt out is the tracks again.
 pub fn distribution()
     ensures merged_again { (tracks : ℕ) (es : List MidiEvent) → InOrder es → AllByRecursion (λ e. e.track < tracks) es → merged_tracks (distributed tracks es) ≡ es }
     ensures dealt_again { (ts : List (List Timed)) → AreInOrder 0 ts → distributed (length ts) (merged_tracks ts) ≡ ts }
-{}
+{
+    merged_order();
+}
 
 /// Each event of a playable list may be put into the tracks that stand for those before it.
 pub fn playable_is_put()

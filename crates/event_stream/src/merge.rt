@@ -8,6 +8,7 @@ ghost use Rattle.event_stream.specs.Merges.{untracked, parts_left, merged_left, 
 
 use crate::least::Least;
 use crate::stream::EventStream;
+use midi_model::merged_order;
 use mt_base::Event;
 use smf_read::{Cursor, Smf};
 use std::marker::Model;
@@ -70,6 +71,7 @@ impl<'a> EventStream<'a> for Merge<'a> {
     ghost rest = { λ m. m.rest };
 
     fn next(&mut self) -> Option<Event<'a>> {
+        merged_order();
         match track_of(self.first) {
             None => None,
             Some(track) => {

@@ -5,6 +5,7 @@ ghost use Rattle.midi_model.specs.Merged.{merged_tracks, IsPlayable, timed};
 ghost use Rattle.midi_model.specs.Writing.{Written, written, with_event, most_bytes};
 ghost use Rattle.event_stream.specs.Distributed.{distributed, all_bytes};
 
+use midi_model::merged_order;
 use mt_base::{Event, Memory};
 use smf_write::TrackText;
 use std::alloc::Global;
@@ -64,6 +65,7 @@ impl TrackSet {
         ensures short { All (λ (t : Written). length t.bytes ≤ all_bytes self) result.items }
         ensures merged_again { (tracks : ℕ) (es : List MidiEvent) → IsPlayable tracks es → merged_tracks (distributed tracks es) ≡ es }
     {
+        merged_order();
         self.tracks
     }
 }

@@ -6,10 +6,11 @@ use Rattle.std.proofs.lemmas.List.{ext_get_or}
 use Rattle.mt_base.specs.Midi.{MidiEvent}
 use Rattle.mt_base.specs.Valid.{IsValidEvent}
 use Rattle.midi_model.specs.FileText.{MidiFile}
-use Rattle.midi_model.specs.Merged.{merged, IsPlayable}
+use Rattle.midi_model.specs.Merged.{merged, merged_tracks, InOrder, IsPlayable}
 use Rattle.midi_model.specs.Sysex.{xor_all}
 use Rattle.midi_model.specs.TuningBytes.{IsTuningValue, value_bytes, dump_body, dump_bytes}
-use Rattle.event_stream.proofs.Dealing.{length_dealt, merged_again}
+use Rattle.event_stream.specs.Distributed.{distributed}
+use Rattle.event_stream.proofs.Dealing.{length_dealt}
 use Rattle.mts_msg.proofs.Written.{dump_again}
 use Rattle.mts_msg.proofs.Lengths.{values_length}
 use Rattle.retune_model.specs.Table.{Scaling, Bounds, IsTable, AreFewTerms, up_to, nearest_tuning, tuning_target}
@@ -98,11 +99,16 @@ has_target table k t one some = pick (table k 0) refl some
     pick (Some b) e h = (b, one ∙ e, h)
 
 -- ---- the whole file
-pub plays_the_same : (scaling : Scaling) (table : Targets) (source : MidiFile) → IsTable scaling table → AreFewTerms scaling → ((key onset : ℕ) → table key onset ≡ table key 0)
+
+-- what was dealt out to tracks, merged, is the list again
+abbrev pub DealtIsMerged : Type 0
+DealtIsMerged = (tracks : ℕ) (es : List MidiEvent) → InOrder es → AllByRecursion (λ e. e.track < tracks) es → merged_tracks (distributed tracks es) ≡ es
+
+pub plays_the_same : DealtIsMerged → (scaling : Scaling) (table : Targets) (source : MidiFile) → IsTable scaling table → AreFewTerms scaling → ((key onset : ℕ) → table key onset ≡ table key 0)
     → IsPlayable (length source.tracks) (merged source) → AllByRecursion (λ e. is_taken e.what ≡ true) (merged source)
     → ((k : ℕ) → k < 128 → uses_key k (merged source) ≡ true → is_some (tuning_at table k) ≡ true)
     → PlaysTheSame scaling dump_options table source (dumped_file (values_from (tuning_at table) 0 128) source)
-plays_the_same scaling table source bounds few one playable taken played =
+plays_the_same again scaling table source bounds few one playable taken played =
     let es = merged source in
     let targets = values_from (tuning_at table) 0 128 in
     let bytes = dump_bytes 0 targets in
@@ -121,4 +127,4 @@ plays_the_same scaling table source bounds few one playable taken played =
       one_table = one;
       dump = dump_of_table table;
     } in
-    dump_file scaling dump_options table bytes source (dumped_file targets source) shape (merged_again n out dump_playable.in_order dump_playable.in_tracks) dumpable
+    dump_file scaling dump_options table bytes source (dumped_file targets source) shape (again n out dump_playable.in_order dump_playable.in_tracks) dumpable

@@ -16,8 +16,9 @@ use crate::lines::report;
 use crate::outcome::Fault;
 use crate::survey::{Survey, look_through};
 use crate::targets::{Targets, targets};
-use event_stream::{Merge, TrackSet};
+use event_stream::{Merge, TrackSet, distribution};
 use key_pitch::KeyTable;
+use midi_model::writing_laws;
 use mt_base::Memory;
 use mts_msg::dump;
 use smf_read::Smf;
@@ -81,6 +82,7 @@ fn output(alloc: Global, smf: &Smf<'_>, setup: &Setup) -> Result<Vec<u8>, Memory
     requires short { All (λ (text : Written). length text.bytes < 2 ^ 32) (map written (output_file (view_setup setup.now) (view_file smf.now)).tracks) }
     ensures { IfOk result (λ v. v.items ≡ file_bytes (output_file (view_setup setup.now) (view_file smf.now))) }
 {
+    writing_laws();
     let mut out = TrackSet::new(alloc, smf.tracks())?;
     translate(&mut Merge::new(smf), setup, &mut out)?;
     finish(alloc, smf.format(), smf.division(), out.into_tracks())
@@ -118,6 +120,7 @@ pub fn retuned(alloc: Global, table: &KeyTable, input: &[u8]) -> Result<Made, Fa
     ensures made { (scaling : Scaling) → IsTable scaling (table_fn table.now) → AreFewTerms scaling → IfOk result (λ made. IsRetuned scaling (table_fn table.now) input.now made.output.items made.report.items) }
     ensures cause { IfErr result (λ e. InputCause (table_fn table.now) input.now e) }
 {
+    distribution();
     let targets = targets(table);
     match read_input(alloc, input) {
         Err(fault) => Err(fault),

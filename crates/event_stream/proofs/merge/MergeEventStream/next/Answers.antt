@@ -40,7 +40,7 @@ returns-in-Some-clause-some c =
     let e = c.take_next-event.ensures in
     let tail = get_or (map remaining c.take_next-event.new.cursors) t [] in
     let s : Stepped t i.cursors c.take_next-event.new.cursors c.take_next-event.result.0 tail = record { some = e.some; none = e.none; others = e.others; all = e.all; size = c.take_next-event.auto.cursors } in
-    some_at c.take_next-event.result.0 _ _ _ _ (rest_next i.tracks t i.first i.cursors c.take_next-event.new.cursors i.keys c.take_next-event.result.0 tail c.self.invariant f s) (ap (λ v. v.rest) (sym c.self.view_is)) refl
+    some_at c.take_next-event.result.0 _ _ _ _ (rest_next c.merged_order.ensures.first i.tracks t i.first i.cursors c.take_next-event.new.cursors i.keys c.take_next-event.result.0 tail c.self.invariant f s) (ap (λ v. v.rest) (sym c.self.view_is)) refl
 
 pub returns-in-Some-clause-none : goal.returns-in-Some-clause-none
 returns-in-Some-clause-none c =
