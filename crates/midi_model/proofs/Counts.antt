@@ -26,6 +26,9 @@ two running before bytes x t =
     let b = some_body running t.is_event.body x.0.what x.1 t.is_event.is_body in
     omega (arith, a, b, ap length t.parts, length-append t.front x.2, ap length t.is_event.parts, length-append t.is_event.delta t.is_event.body)
 
+pub two_bytes : (running before : ℕ) (bytes : List ℕ) (x : Timed × ℕ × List ℕ) → IsRunning running → event_at running before bytes ≡ Ok x → length x.2 + 2 ≤ length bytes
+two_bytes running before bytes x run e = two running before bytes x (event_takes running before bytes x run e)
+
 one_more : (b : Bool) (e : Timed) (run : Run) (n m : ℕ) → n + 2 ≤ m → 2 * length run.events ≤ n → 2 * length (cond b (last e) (in_front e run)).events ≤ m
 one_more true e run n m room few = omega (arith, room)
 one_more false e run n m room few = omega (arith, room, few)

@@ -98,3 +98,26 @@ pub some_left : (bytes : List ℕ) (d : ℕ × List ℕ) → quantity_at bytes �
 unfolding quantity_at quantity_from
 some_left [] d q = absurd cc
 some_left (b ∷ bytes) d q = omega arith
+
+-- ---- what is left of a track, by its first event
+
+pub by_events : (running before : ℕ) (bytes : List ℕ) → IsRunning running → 0 < length bytes → rest_of_track running before bytes ≡ continued rest_of_track (event_at running before bytes)
+unfolding rest_of_track track_from
+by_events running before [] run some = absurd (omega (arith, some))
+by_events running before (b ∷ bytes) run some =
+    agree (track_from (suc (length bytes))) rest_of_track (event_at running before (b ∷ bytes)) (λ x e.
+    let small = shorter running before (b ∷ bytes) x run e in
+    let t = event_takes running before (b ∷ bytes) x run e in
+    fuel (suc (length bytes)) (suc (length x.2)) x.1 x.0.tick x.2 t.runs (omega (arith, small)) (omega arith))
+
+abbrev pub BeginsWith : ℕ → ℕ → ℕ → List ℕ → Type 0
+BeginsWith track running before bytes =
+    (d : ℕ × List ℕ) × (quantity_at bytes ≡ Ok d) × (first_tick (map (placed track) (rest_of_track running before bytes).events) ≡ Some (before + d.0))
+
+begins_with : (track running before : ℕ) (bytes : List ℕ) (r : Result (ℕ × List ℕ) Stop) → quantity_at bytes ≡ r → IsRunning running → 0 < length bytes → (rest_of_track running before bytes).fault ≡ None
+    → BeginsWith track running before bytes
+begins_with track running before bytes (Err e) q run some sound = absurd (has_delta running before bytes e some sound q)
+begins_with track running before bytes (Ok d) q run some sound = (d, q, first_tick_is track running before bytes d run some sound q)
+
+pub first_by_delta : (track running before : ℕ) (bytes : List ℕ) → IsRunning running → 0 < length bytes → (rest_of_track running before bytes).fault ≡ None → BeginsWith track running before bytes
+first_by_delta track running before bytes run some sound = begins_with track running before bytes _ refl run some sound

@@ -78,3 +78,10 @@ takes_it bytes x e h = rw (e, h) refl
 pub stops : (bytes : List ℕ) (e : Stop) → chunk_at bytes ≡ Err e → next_content bytes ≡ Err e
 unfolding next_content content_from
 stops bytes e h = rw h refl
+
+-- the content of the chunk at the front, or of a later one
+pub by_chunks : (bytes : List ℕ) → next_content bytes ≡ (chunk_at bytes >>= λ c. cond (eqb c.0.name 0x4d54726b) (Ok (c.0.content, c.1)) (next_content c.1))
+unfolding next_content content_from
+by_chunks bytes = agree _ _ (chunk_at bytes) (λ x e.
+    let small = chunk_shorter bytes x e in
+    ap (cond (eqb x.0.name 0x4d54726b) (Ok (x.0.content, x.1))) (fuel (length bytes) (suc (length x.1)) x.1 small (omega arith)))

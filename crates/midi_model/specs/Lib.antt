@@ -2,6 +2,7 @@ pub mod Reading
 pub mod Spelling
 pub mod FileText
 pub mod Merged
+pub mod ReadingLaws
 pub mod Kinds
 pub mod Faults
 pub mod Examples

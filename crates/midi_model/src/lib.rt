@@ -4,6 +4,7 @@
 mod fault;
 mod order;
 mod params;
+mod reading;
 mod receiver;
 mod text;
 mod worked;
@@ -12,6 +13,7 @@ mod writing;
 pub use fault::{SmfKind, Stop};
 pub use order::{merged_example, merged_order};
 pub use params::parameter_laws;
+pub use reading::reading_laws;
 pub use receiver::{
     bring_examples, controller_examples, music_hears_no_tuning, pedal_examples, receiver_laws,
     reset_examples, silent_at_first, tuning_examples, zone_examples,
