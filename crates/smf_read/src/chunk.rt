@@ -4,7 +4,7 @@ ghost use Rattle.midi_model.specs.Reading.{Gives, Within};
 ghost use Rattle.midi_model.specs.FileText.{number, header_at, fields_at, chunk_at, next_content};
 ghost use Rattle.smf_read.specs.Views.{view_header, view_chunk};
 
-use midi_model::{SmfKind, Stop};
+use midi_model::{SmfKind, Stop, reading_laws};
 
 /// What a header says.
 #[derive(Clone, Copy, Debug)]
@@ -160,6 +160,7 @@ pub fn next_content(bytes: &[u8]) -> Result<(&[u8], &[u8]), Stop>
     ensures within { Within result (length bytes.entry.now) }
     ensures part { IfOk result (λ x. length x.0.now + length x.1.now ≤ length bytes.entry.now) }
 {
+    reading_laws();
     let mut rest = bytes;
     'chunks: loop {
         match read_chunk(rest) {

@@ -5,7 +5,7 @@ ghost use Rattle.midi_model.specs.Reading.{IsRunning, track_in};
 ghost use Rattle.smf_read.specs.Sound.{IsSound};
 
 use crate::reading::{event, quantity};
-use midi_model::{SmfKind, Stop};
+use midi_model::{SmfKind, Stop, reading_laws};
 use mt_base::{Event, What};
 
 /// Whether the track ends here.
@@ -23,6 +23,7 @@ pub fn fault_in(bytes: &[u8]) -> Option<Stop>
     ensures exact { result ≡ (track_in bytes.now).fault }
     ensures within { IfSome result (λ s. s.left ≤ length bytes.now) }
 {
+    reading_laws();
     let mut running = 0u8;
     let mut tick = 0u32;
     let mut rest = bytes;
@@ -63,7 +64,7 @@ impl Default for Cursor<'_> {
     ghost use Rattle.smf_read.specs.Remaining.{remaining, all_of};
 
     /// A cursor without events.
-    #[tactic(auto, using(midi_model::proofs::Runs::nothing_left))]
+    #[tactic(auto, using(crate::proofs::Runs::nothing_left))]
     fn default() -> Self
         ensures rest { remaining result ≡ [] }
         ensures all { all_of result ≡ [] }
@@ -101,6 +102,7 @@ impl<'a> Cursor<'a> {
     pub fn tick(&self) -> Option<u32>
         ensures { result ≡ first_tick (remaining self.now) }
     {
+        reading_laws();
         match quantity(self.rest) {
             Err(_) => None,
             Ok((delta, _)) => Some(self.tick + delta),
@@ -114,6 +116,7 @@ impl<'a> Cursor<'a> {
         ensures none { IfNone result ((remaining self.old ≡ []) × (remaining self.new ≡ [])) }
         ensures all { all_of self.new ≡ all_of self.old }
     {
+        reading_laws();
         if self.rest.is_empty() {
             return None;
         }

@@ -12,7 +12,7 @@ use crate::chunk::{next_content, read_header};
 use crate::cursor::fault_in;
 use crate::fault::{Halt, SmfFault};
 use crate::smf::Smf;
-use midi_model::Stop;
+use midi_model::{Stop, file_laws, reading_laws};
 use std::alloc::Global;
 
 /// The next track.
@@ -38,6 +38,7 @@ fn tracks<'a>(alloc: Global, count: u16, bytes: &'a [u8]) -> Result<(Vec<&'a [u8
     ensures sound { length bytes.entry.now ≤ 4194304 → IfOk result (λ x. AreSound (map content_of x.0.items)) }
     ensures together { IfOk result (λ x. 2 * together (map events_of (map content_of x.0.items)) ≤ length bytes.entry.now) }
 {
+    reading_laws();
     let mut contents = Vec::new(alloc);
     let mut rest = bytes;
     for _ in 0..count {
@@ -91,5 +92,6 @@ pub fn read_smf(alloc: Global, bytes: &[u8]) -> Result<Smf<'_>, SmfFault>
     // The same, by reading from left to right.
     ensures exact { Reads result (file_at bytes.entry.now) }
 {
+    file_laws();
     exact(alloc, bytes)
 }

@@ -4,6 +4,7 @@ ghost use Rattle.smf_read.specs.Sound.{AreSound};
 ghost use Rattle.smf_read.specs.Views.{content_of};
 
 use crate::cursor::Cursor;
+use midi_model::{merged_order, reading_laws};
 
 /// A file that was read: 1 to 1,024 tracks with at most 2,097,152 events together.
 #[derive(Debug, Drop)]
@@ -62,6 +63,8 @@ impl<'a> Smf<'a> {
         ensures each { AreTracksOf 0 (view_file self.now).tracks }
         ensures playable { IsPlayable (length (view_file self.now).tracks) (merged (view_file self.now)) }
     {
+        merged_order();
+        reading_laws();
         self.contents.len() as u16
     }
 
@@ -72,6 +75,7 @@ impl<'a> Smf<'a> {
         ensures all { all_of result ≡ map (placed track) (get_or (view_file self.now).tracks track []) }
         ensures track_of { IsTrackOf track (all_of result) }
     {
+        reading_laws();
         Cursor::new(track, self.contents[track as usize])
     }
 }

@@ -1,30 +1,30 @@
 use Rattle.std.proofs.Common.{◌<◌, length, arith, ap, sym, ◌∙◌}
 use Rattle.std.proofs.lemmas.Bool.{eqb-true}
-use Rattle.midi_model.proofs.Laws.{shorter, nonzero}
-use Rattle.midi_model.proofs.Runs.{no_end, ends, goes_on, fails}
+use Rattle.smf_read.proofs.Steps.{nonzero}
+use Rattle.smf_read.proofs.Runs.{no_end, shorter, ends, goes_on, fails}
 use Rattle.smf_read.proofs.cursor.fault_in.Goals as goal
 
 pub returns-in-Err-clause-exact : goal.returns-in-Err-clause-exact
 returns-in-Err-clause-exact c =
     let l = c.events in
     let some : 0 < length l.rest.now = nonzero _ (sym c.events-test.ensures) in
-    sym (ap (λ r. r.fault) (fails l.running l.tick l.rest.now c.in-Err.stop some c.in-Err.ensures.gives)) ∙ l.invariant.told
+    sym (ap (λ r. r.fault) (fails c.reading_laws.ensures.events l.running l.tick l.rest.now c.in-Err.stop l.invariant.status some c.in-Err.ensures.gives)) ∙ l.invariant.told
 
 pub returns-then-is_end-clause-exact : goal.returns-then-is_end-clause-exact
 returns-then-is_end-clause-exact c =
     let l = c.events in
-    sym (ap (λ r. r.fault) (ends l.running l.tick l.rest.now _ c.in-Ok.ensures.gives (sym c.if-is_end.ensures))) ∙ l.invariant.told
+    sym (ap (λ r. r.fault) (ends c.reading_laws.ensures.events c.reading_laws.ensures.two_bytes l.running l.tick l.rest.now _ l.invariant.status c.in-Ok.ensures.gives (sym c.if-is_end.ensures))) ∙ l.invariant.told
 
 pub events-smaller : goal.events-smaller
 events-smaller c =
     let l = c.events in
-    shorter l.running l.tick l.rest.now _ l.invariant.status c.in-Ok.ensures.gives
+    shorter c.reading_laws.ensures.two_bytes l.running l.tick l.rest.now _ l.invariant.status c.in-Ok.ensures.gives
 
 pub events-preserved : goal.events-preserved
 events-preserved c =
     let l = c.events in
     record {
-      told = sym (ap (λ r. r.fault) (goes_on l.running l.tick l.rest.now _ l.invariant.status c.in-Ok.ensures.gives (sym c.if-is_end.ensures))) ∙ l.invariant.told;
+      told = sym (ap (λ r. r.fault) (goes_on c.reading_laws.ensures.events c.reading_laws.ensures.two_bytes l.running l.tick l.rest.now _ l.invariant.status c.in-Ok.ensures.gives (sym c.if-is_end.ensures))) ∙ l.invariant.told;
       status = c.in-Ok.ensures.running;
       in_time = c.in-Ok.ensures.tick;
       within = omega (arith, c.in-Ok.ensures.within, l.invariant.within);

@@ -2,8 +2,7 @@ use Rattle.std.proofs.Common.{◌≡◌, ◌++◌, ◌∷◌, [], map, length, a
 use Rattle.std.proofs.lemmas.List.{map_push}
 use Rattle.smf_read.specs.Views.{content_of}
 use Rattle.midi_model.specs.FileText.{tracks_at}
-use Rattle.midi_model.proofs.Tracks.{goes_on, ends, is_done}
-use Rattle.midi_model.proofs.Counts.{tracks_count}
+use Rattle.smf_read.proofs.Tracks.{goes_on, ends, is_done}
 use Rattle.smf_read.proofs.Sounds.{tracks_sound}
 use Rattle.smf_read.proofs.file.tracks.Goals as goal
 
@@ -25,10 +24,10 @@ returns-clause-gives c = is_done (map content_of c.loop.contents.items) c.args.c
 pub returns-clause-together : goal.returns-clause-together
 returns-clause-together c =
     let read = is_done (map content_of c.loop.contents.items) c.args.count c.loop.counter c.loop.rest.now (tracks_at c.args.count c.args.bytes.now) c.loop-test.false c.loop.invariant.told in
-    let few = tracks_count c.args.count c.args.bytes.now (map content_of c.loop.contents.items, c.loop.rest.now) read in
+    let few = c.reading_laws.ensures.few c.args.count c.args.bytes.now (map content_of c.loop.contents.items, c.loop.rest.now) read in
     omega (arith, few)
 
 pub returns-clause-sound : goal.returns-clause-sound
 returns-clause-sound c few =
     let read = is_done (map content_of c.loop.contents.items) c.args.count c.loop.counter c.loop.rest.now (tracks_at c.args.count c.args.bytes.now) c.loop-test.false c.loop.invariant.told in
-    tracks_sound c.args.count c.args.bytes.now (map content_of c.loop.contents.items, c.loop.rest.now) few read
+    tracks_sound c.reading_laws.ensures.whole c.args.count c.args.bytes.now (map content_of c.loop.contents.items, c.loop.rest.now) few read

@@ -1,7 +1,7 @@
 use Rattle.std.proofs.Common.{◌≡◌, ◌-◌, length, map}
 use Rattle.midi_model.specs.FileText.{tracks_at}
 use Rattle.smf_read.specs.Views.{content_of}
-use Rattle.midi_model.proofs.Tracks.{with_front}
+use Rattle.smf_read.proofs.Tracks.{with_front}
 use Rattle.smf_read.proofs.file.tracks.Given as goal
 
 abbrev pub invariant-loop : goal.invariant-loop

@@ -1,5 +1,5 @@
 use Rattle.std.proofs.Common.{arith, ◌<◌}
-use Rattle.midi_model.proofs.Room.{room_step, room_low}
+use Rattle.smf_read.proofs.Room.{room_step, room_low}
 use Rattle.smf_read.proofs.reading.+quantity_from.Goals as goal
 
 pub overflow_mul-result : goal.overflow_mul-result

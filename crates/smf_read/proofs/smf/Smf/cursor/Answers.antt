@@ -1,9 +1,8 @@
 use Rattle.std.proofs.Common.{ap, sym, subst, ◌∙◌, map, arith}
 use Rattle.mt_base.specs.Midi.{placed}
 use Rattle.midi_model.specs.Merged.{IsTrackOf}
-use Rattle.midi_model.proofs.Merging.{track_in_place}
 use Rattle.smf_read.proofs.Places.{at_place}
-use Rattle.smf_read.proofs.Sounds.{sound_at, are_tracks, tracks_count_is}
+use Rattle.smf_read.proofs.Sounds.{sound_at, are_tracks, track_in_place, tracks_count_is}
 use Rattle.smf_read.proofs.smf.Smf.cursor.Goals as goal
 
 pub new-requires : goal.new-requires
@@ -18,4 +17,4 @@ returns-clause-all c = c.new.ensures.all ∙ ap (map (placed c.args.track)) (sym
 pub returns-clause-track_of : goal.returns-clause-track_of
 returns-clause-track_of c =
     let is = returns-clause-all c in
-    subst (IsTrackOf c.args.track) (sym is) (track_in_place c.args.track _ (are_tracks _ c.args.self.now.sound) c.requires)
+    subst (IsTrackOf c.args.track) (sym is) (track_in_place c.args.track _ (are_tracks c.reading_laws.ensures.track _ c.args.self.now.sound) c.requires)
