@@ -3,7 +3,6 @@ pub mod Chunks
 pub mod Counts
 pub mod Files
 pub mod Laws
-pub mod Room
 pub mod Runs
 pub mod Takes
 pub mod Tracks

@@ -49,14 +49,6 @@ unfolding rest_of_track track_from
 fails running before [] e some h = absurd (omega (arith, some))
 fails running before (b ∷ bytes) e some h = ap (continued (track_from (suc (length bytes)))) h
 
-pub no_end : (running before : ℕ) (bytes : List ℕ) → length bytes ≡ 0 → (rest_of_track running before bytes).fault ≡ Some (record { left = 0; kind = MissingEnd })
-no_end running before [] h = ap (λ r. r.fault) (nothing_left running before)
-no_end running before (b ∷ bytes) h = absurd (omega (arith, h))
-
-pub no_events : (running before : ℕ) (bytes : List ℕ) → length bytes ≡ 0 → (rest_of_track running before bytes).events ≡ []
-no_events running before [] h = ap (λ r. r.events) (nothing_left running before)
-no_events running before (b ∷ bytes) h = absurd (omega (arith, h))
-
 -- ---- the tick of the first event
 
 tick_is : (running before : ℕ) (bytes : List ℕ) (x : Timed × ℕ × List ℕ) (d : ℕ × List ℕ) → event_at running before bytes ≡ Ok x → quantity_at bytes ≡ Ok d → x.0.tick ≡ before + d.0
@@ -92,12 +84,6 @@ no_delta running before bytes e q = rw q refl
 pub has_delta : (running before : ℕ) (bytes : List ℕ) (e : Stop) → 0 < length bytes → (rest_of_track running before bytes).fault ≡ None → quantity_at bytes ≡ Err e → ⊥
 has_delta running before bytes e some sound q =
     let f = ap (λ r. r.fault) (fails running before bytes e some (no_delta running before bytes e q)) in cc
-
--- where there is a delta, bytes are left
-pub some_left : (bytes : List ℕ) (d : ℕ × List ℕ) → quantity_at bytes ≡ Ok d → 0 < length bytes
-unfolding quantity_at quantity_from
-some_left [] d q = absurd cc
-some_left (b ∷ bytes) d q = omega arith
 
 -- ---- what is left of a track, by its first event
 
