@@ -7,6 +7,7 @@ pub mod Options
 pub mod Source
 pub mod PlaysTheSame
 pub mod Faults
+pub mod FaultLaws
 pub mod Dump
 pub mod Dumpable
 pub mod Numbered

@@ -4,6 +4,7 @@
 mod channels;
 mod dump;
 mod examples;
+mod faults;
 mod routes;
 
 pub use channels::{need_laws, position_laws, run_laws};
@@ -12,6 +13,7 @@ pub use examples::{
     bend_examples, fault_examples, output_examples, pair_examples, scale_examples, target_examples,
     zone_examples,
 };
+pub use faults::zone_entries_set_zones;
 pub use routes::{
     blocks_play_the_source, dump_plays_the_same, dump_plays_the_source, live_plays_the_same,
     live_plays_the_source, playable_in_order,
