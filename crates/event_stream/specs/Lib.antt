@@ -1,4 +1,5 @@
 pub mod Distributed
+pub mod PutLaws
 pub mod Keys
 pub mod Tree
 pub mod Streams

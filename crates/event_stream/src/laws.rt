@@ -5,8 +5,9 @@ ghost use Rattle.midi_model.specs.Merged.{merged_tracks, InOrder, IsPlayable};
 ghost use Rattle.midi_model.specs.Writing.{written};
 ghost use Rattle.event_stream.specs.Distributed.{distributed, MayPut};
 ghost use Rattle.event_stream.specs.Keys.{AreInOrder};
+ghost use Rattle.event_stream.specs.PutLaws.{EventIsDealt};
 
-use midi_model::merged_order;
+use midi_model::{merged_order, writing_laws};
 
 /// Merging and distribution undo each other: what was dealt out to tracks and merged is the list
 /// again, and what was merged and dealt out is the tracks again.
@@ -21,3 +22,11 @@ pub fn distribution()
 pub fn playable_is_put()
     ensures { (tracks : ℕ) (es : List MidiEvent) (e : MidiEvent) (more : List MidiEvent) → IsPlayable tracks (es ++ e ∷ more) → MayPut (map written (distributed tracks es)) e }
 {}
+
+/// Tracks that stand for a list, with an event more in its track, stand for the list with that event
+/// at its end.
+pub fn put_is_dealt()
+    ensures { EventIsDealt }
+{
+    writing_laws();
+}

@@ -9,7 +9,7 @@ mod merge;
 mod stream;
 mod tracks;
 
-pub use laws::{distribution, playable_is_put};
+pub use laws::{distribution, playable_is_put, put_is_dealt};
 pub use list::ListStream;
 pub use merge::Merge;
 pub use stream::EventStream;

@@ -21,4 +21,5 @@ pub mod Bring
 pub mod Order
 pub mod Writing
 pub mod WritingLaws
+pub mod SizeLaws
 pub mod FileExamples

@@ -1,6 +1,7 @@
 //! What a file of MIDI events is, and what a receiver does with it: definitions alone.
 #![tactic(auto)]
 
+mod bytes;
 mod fault;
 mod order;
 mod params;
@@ -10,6 +11,7 @@ mod text;
 mod worked;
 mod writing;
 
+pub use bytes::size_laws;
 pub use fault::{SmfKind, Stop};
 pub use order::{merged_example, merged_order};
 pub use params::parameter_laws;

@@ -12,7 +12,7 @@ use Rattle.midi_model.specs.Zones.{bend_ranges}
 use Rattle.midi_model.specs.Music.{Music, quiet, channel_at, zones_after, advance, step}
 use Rattle.retune_model.specs.Table.{Bounds, tuning_target}
 use Rattle.retune_model.specs.Faults.{Targets, Kind, TuningInSource, Port, is_part, misses_target, is_unmapped, is_out_of_device, is_unison, is_restrike, is_mode, is_data_step, is_entry, is_selected, is_tuning_entry, is_zone_entry, is_poly, first_that, message_tests, is_port, fault_in, IsFaultless}
-use Rattle.retune_model.proofs.Faultless.{message_asks_none}
+use Rattle.retune_model.specs.FaultLaws.{OnlyZoneEntriesAskForZones}
 use Rattle.mtune_core.specs.Source.{is_plain, is_plain_sysex, is_taken, note_on}
 use Rattle.mtune_core.specs.Chosen.{dump_options, is_on_key, uses_key}
 
@@ -212,10 +212,10 @@ apply_params s (Program c p) h e = refl
 apply_params s (Pressure c v) h e = refl
 apply_params s (Bend c v) h e = refl
 
-clean_message : (m : Music) (t : ℕ) (msg : Msg) → is_taken (Says msg) ≡ true → Clean m → Clean (advance t (Plays msg) m)
-clean_message m t msg h clean c p =
+clean_message : OnlyZoneEntriesAskForZones → (m : Music) (t : ℕ) (msg : Msg) → is_taken (Says msg) ≡ true → Clean m → Clean (advance t (Plays msg) m)
+clean_message zones m t msg h clean c p =
     subst (λ a. (get_or (bend_ranges a (zones_after m msg) (set m.channels (channel_of msg) (apply (channel_at m (channel_of msg)) msg))) c default_channel).params ≡ [])
-    (sym (message_asks_none dump_options m msg (zone_fine m msg h)))
+    (sym (zones dump_options m msg (zone_fine m msg h)))
     (keep_set (λ s. s.params ≡ []) m.channels (channel_of msg) c (apply (channel_at m (channel_of msg)) msg) default_channel (clean c p)
     (λ e. let q : is_part dump_options (channel_of msg) ≡ true = ap (is_part dump_options) (sym e) ∙ p in apply_params (channel_at m (channel_of msg)) msg h q ∙ clean (channel_of msg) q))
 
@@ -225,10 +225,10 @@ clean_sysex m t true true r clean = clean_quiet
 clean_sysex m t true false None clean = clean
 clean_sysex m t true false (Some x) clean = clean
 
-clean_what : (m : Music) (t : ℕ) (w : MidiWhat) → is_taken w ≡ true → Clean m → Clean (advance t (doing w) m)
-clean_what m t (Says msg) h clean = clean_message m t msg h clean
-clean_what m t (SysexOf lead bytes) h clean = clean_sysex m t (nat_eq lead 240) (is_reset bytes) (tuning_of bytes) clean
-clean_what m t (MetaOf kind bytes) h clean = clean
+clean_what : OnlyZoneEntriesAskForZones → (m : Music) (t : ℕ) (w : MidiWhat) → is_taken w ≡ true → Clean m → Clean (advance t (doing w) m)
+clean_what zones m t (Says msg) h clean = clean_message zones m t msg h clean
+clean_what zones m t (SysexOf lead bytes) h clean = clean_sysex m t (nat_eq lead 240) (is_reset bytes) (tuning_of bytes) clean
+clean_what zones m t (MetaOf kind bytes) h clean = clean
 
 -- ---- no event has a fault
 none_first : (xs : List (Kind × Bool)) → AllByRecursion (λ x. x.1 ≡ false) xs → first_that xs ≡ None
@@ -294,15 +294,15 @@ what_fine table m after t (Says msg) h targets clean = none_first (message_tests
 what_fine table m after t (SysexOf lead bytes) h targets clean = sysex_fine lead bytes h
 what_fine table m after t (MetaOf kind bytes) h targets clean = ap (λ b. cond b (Some Port) None) (port_fine kind bytes h)
 
-faultless_from : (table : Targets) (m : Music) (es : List MidiEvent) → AllByRecursion (λ e. is_taken e.what ≡ true) es → ((k t : ℕ) → uses_key k es ≡ true → HasTarget table k t) → Clean m → IsFaultless dump_options table m es
-faultless_from table m [] taken targets clean = tt
-faultless_from table m (e ∷ es) taken targets clean =
-    let next : Clean (step m e) = clean_what m e.tick e.what taken.0 clean in (
+faultless_from : OnlyZoneEntriesAskForZones → (table : Targets) (m : Music) (es : List MidiEvent) → AllByRecursion (λ e. is_taken e.what ≡ true) es → ((k t : ℕ) → uses_key k es ≡ true → HasTarget table k t) → Clean m → IsFaultless dump_options table m es
+faultless_from zones table m [] taken targets clean = tt
+faultless_from zones table m (e ∷ es) taken targets clean =
+    let next : Clean (step m e) = clean_what zones m e.tick e.what taken.0 clean in (
       what_fine table m (step m e) e.tick e.what taken.0 (λ k h. targets k e.tick (or_left (is_on_key k (note_on e.what)) (uses_key k es) h)) next,
-      faultless_from table (step m e) es taken.1 (λ k t h. targets k t (or_right (is_on_key k (note_on e.what)) (uses_key k es) h)) next,
+      faultless_from zones table (step m e) es taken.1 (λ k t h. targets k t (or_right (is_on_key k (note_on e.what)) (uses_key k es) h)) next,
     )
 
-pub taken_is_faultless : (table : Targets) (es : List MidiEvent) → AllByRecursion (λ e. is_taken e.what ≡ true) es
+pub taken_is_faultless : OnlyZoneEntriesAskForZones → (table : Targets) (es : List MidiEvent) → AllByRecursion (λ e. is_taken e.what ≡ true) es
     → ((k t : ℕ) → uses_key k es ≡ true → (b : Bounds) × (table k t ≡ Some b) × (is_some (tuning_target b) ≡ true))
     → IsFaultless dump_options table quiet es
-taken_is_faultless table es taken targets = faultless_from table quiet es taken targets clean_quiet
+taken_is_faultless zones table es taken targets = faultless_from zones table quiet es taken targets clean_quiet

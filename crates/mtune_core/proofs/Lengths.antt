@@ -9,21 +9,21 @@ use Rattle.mt_base.specs.Midi.{Timed, MidiEvent}
 use Rattle.midi_model.specs.FileText.{MidiFile}
 use Rattle.midi_model.specs.Spelling.{Spells}
 use Rattle.midi_model.specs.Writing.{Written, written, most_bytes}
+use Rattle.midi_model.specs.SizeLaws.{most_of_track, WrittenIsWithinMost}
 use Rattle.midi_model.specs.Merged.{of_track, merged, timed}
-use Rattle.midi_model.proofs.Merging.{of_track_merged, track_in_place}
-use Rattle.midi_model.proofs.Playing.{spelled_tracks}
-use Rattle.midi_model.proofs.Sizes.{most, track_most, spelled_most, spelled_count}
-use Rattle.event_stream.specs.Distributed.{events_in, distributed_from, distributed}
-use Rattle.event_stream.proofs.Dealing.{timed_placed}
+use Rattle.event_stream.specs.Distributed.{events_in, distributed_from}
 use Rattle.retune_model.specs.Blocks.{all_events}
 use Rattle.retune_model.specs.Dump.{dump_if}
 use Rattle.retune_model.specs.Routes.{Setup, sends, selects}
 use Rattle.mtune_core.specs.declared.dump.Setup as program
+use Rattle.mtune_core.specs.OutputLaws.{IsShortSetup, TracksAreShort}
 use Rattle.mtune_core.specs.Putting.{any_of, marked, view_setup, dump_events, select_events, setup_if, is_first, is_again, has_begun, block_events, written_from}
+use Rattle.mtune_core.proofs.Dealt.{timed_placed, track_in_order}
+use Rattle.mtune_core.proofs.Premises.{ShortLaws}
 
 -- ---- sums
 
-most-append : (xs ys : List Timed) → most (xs ++ ys) ≡ most xs + most ys
+most-append : (xs ys : List Timed) → most_of_track (xs ++ ys) ≡ most_of_track xs + most_of_track ys
 most-append [] ys = omega arith
 most-append (x ∷ xs) ys = omega (arith, most-append xs ys)
 
@@ -38,12 +38,12 @@ all_most-append (x ∷ xs) ys = omega (arith, all_most-append xs ys)
 
 -- the most bytes that the events of one track take
 abbrev most_in : ℕ → List MidiEvent → ℕ
-most_in t es = most (events_in t es)
+most_in t es = most_of_track (events_in t es)
 
 most_in-append : (t : ℕ) (xs ys : List MidiEvent) → most_in t (xs ++ ys) ≡ most_in t xs + most_in t ys
 most_in-append t xs ys =
-    ap (λ l. most (map timed l)) (filter-append (λ (f : MidiEvent). eqb f.track t) xs ys)
-    ∙ ap most (map-append timed (of_track t xs) (of_track t ys))
+    ap (λ l. most_of_track (map timed l)) (filter-append (λ (f : MidiEvent). eqb f.track t) xs ys)
+    ∙ ap most_of_track (map-append timed (of_track t xs) (of_track t ys))
     ∙ most-append (events_in t xs) (events_in t ys)
 
 most_within : (t : ℕ) (es : List MidiEvent) → most_in t es ≤ all_most es
@@ -54,12 +54,6 @@ most_within t (e ∷ es) = elim (cases_Bool (eqb e.track t)) [
 ]
 
 -- ---- the setup
-
--- A setup of at most one dump of at most 407 bytes, and of selections on at most 16 channels.
-pub record IsShortSetup (s : Setup) : Type 0 where
-  pub one_dump : length s.dumps ≤ 1
-  pub dumps : AllByRecursion (λ b. length b ≤ 407) s.dumps
-  pub channels : length s.channels ≤ 16
 
 sends_most : (t track : ℕ) (bs : List (List ℕ)) → AllByRecursion (λ b. length b ≤ 407) bs → all_most (all_events (sends t track bs)) ≤ length bs * 416
 sends_most t track [] h = omega arith
@@ -97,29 +91,28 @@ written_most t s begun (e ∷ es) h =
 
 -- ---- a file
 
-source_most : (bytes : List ℕ) (file : MidiFile) → Spells bytes file → length bytes ≤ 4194304 → (t : ℕ) → t < length file.tracks → most_in t (merged file) ≤ 4 * length bytes
-source_most bytes file is few t lt =
-    let one = track_in_place t file.tracks (spelled_tracks bytes file (omega (arith, few)) is) lt in
-    let same : events_in t (merged file) ≡ get_or file.tracks t [] = ap (map timed) (of_track_merged t file.tracks one.in_order) ∙ timed_placed t (get_or file.tracks t []) in
-    omega (arith, ap most same, spelled_most bytes file is t)
+source_most : ShortLaws → (bytes : List ℕ) (file : MidiFile) → Spells bytes file → length bytes ≤ 4194304 → (t : ℕ) → most_in t (merged file) ≤ 4 * length bytes
+source_most laws bytes file is few t =
+    let order = track_in_order 0 t t file.tracks (omega arith) (laws.tracks bytes file (omega (arith, few)) is) in
+    let same : events_in t (merged file) ≡ get_or file.tracks t [] = ap (map timed) (laws.kept t file order) ∙ timed_placed t (get_or file.tracks t []) in
+    omega (arith, ap most_of_track same, laws.within_file bytes file is t)
 
 abbrev IsShort : Written → Type 0
 IsShort w = length w.bytes < 2 ^ 32
 
-all_short : (n m : ℕ) (es : List MidiEvent) → ((t : ℕ) → t < n + m → most_in t es < 2 ^ 32) → All IsShort (map written (distributed_from n m es))
-all_short n zero es h = All-nil IsShort
-all_short n (suc m) es h =
+all_short : WrittenIsWithinMost → (n m : ℕ) (es : List MidiEvent) → ((t : ℕ) → t < n + m → most_in t es < 2 ^ 32) → All IsShort (map written (distributed_from n m es))
+all_short within n zero es h = All-nil IsShort
+all_short within n (suc m) es h =
     All-cons IsShort (written (events_in n es)) (map written (distributed_from (suc n) m es))
-    (omega (arith, track_most (events_in n es), h n (omega arith)))
-    (all_short (suc n) m es (λ t lt. h t (omega (arith, lt))))
+    (omega (arith, within (events_in n es), h n (omega arith)))
+    (all_short within (suc n) m es (λ t lt. h t (omega (arith, lt))))
 
 -- Each track that the dump route writes is short enough for its chunk.
-pub short : (bytes : List ℕ) (file : MidiFile) (s : Setup) → Spells bytes file → length bytes ≤ 4194304 → IsShortSetup s
-    → All (λ (w : Written). length w.bytes < 2 ^ 32) (map written (distributed (length file.tracks) (written_from s false (merged file))))
-short bytes file s is few h = all_short 0 (length file.tracks) (written_from s false (merged file)) (λ t lt.
-    let source = source_most bytes file is few t (omega (arith, lt)) in
+pub short : ShortLaws → TracksAreShort
+short laws bytes file s is few h = all_short laws.within_most 0 (length file.tracks) (written_from s false (merged file)) (λ t lt.
+    let source = source_most laws bytes file is few t in
     let put = written_most t s false (merged file) h in
-    omega (arith, source, put, few, spelled_count bytes file is))
+    omega (arith, source, put, few, laws.few_events bytes file is))
 
 -- ---- the program's setup
 

@@ -1,3 +1,5 @@
+pub mod Premises
+pub mod Dealt
 pub mod Puts
 pub mod Distributes
 pub mod Lengths

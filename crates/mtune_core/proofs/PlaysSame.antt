@@ -5,24 +5,21 @@ use Rattle.std.specs.List.{AllByRecursion, flat_map}
 use Rattle.std.proofs.lemmas.List.{ext_get_or}
 use Rattle.mt_base.specs.Midi.{MidiEvent}
 use Rattle.mt_base.specs.Valid.{IsValidEvent}
-use Rattle.midi_model.specs.FileText.{MidiFile}
-use Rattle.midi_model.specs.Merged.{merged, merged_tracks, InOrder, IsPlayable}
+use Rattle.midi_model.specs.Merged.{merged, IsPlayable}
 use Rattle.midi_model.specs.Sysex.{xor_all}
 use Rattle.midi_model.specs.TuningBytes.{IsTuningValue, value_bytes, dump_body, dump_bytes}
-use Rattle.event_stream.specs.Distributed.{distributed}
-use Rattle.event_stream.proofs.Dealing.{length_dealt}
-use Rattle.mts_msg.proofs.Written.{dump_again}
-use Rattle.mts_msg.proofs.Lengths.{values_length}
-use Rattle.retune_model.specs.Table.{Scaling, Bounds, IsTable, AreFewTerms, up_to, nearest_tuning, tuning_target}
+use Rattle.mts_msg.specs.Readings.{DumpsAreReadAgain}
+use Rattle.retune_model.specs.Table.{Bounds, up_to, nearest_tuning, tuning_target}
 use Rattle.retune_model.specs.Faults.{Targets}
-use Rattle.retune_model.specs.PlaysTheSame.{HasSameShape, PlaysTheSame}
+use Rattle.retune_model.specs.PlaysTheSame.{HasSameShape}
 use Rattle.retune_model.specs.Dump.{dumped, tuning_if, tuning_at, values_from, IsDumpOf}
 use Rattle.retune_model.specs.Dumpable.{IsDumpable}
-use Rattle.retune_model.proofs.DumpFile.{dump_file, ticks_in_order}
-use Rattle.retune_model.proofs.DumpPlayable.{dumped_playable}
-use Rattle.mtune_core.specs.Source.{is_taken, note_on}
+use Rattle.mtune_core.specs.Source.{note_on}
 use Rattle.mtune_core.specs.Chosen.{dump_options, is_on_key, uses_key}
 use Rattle.mtune_core.specs.Answers.{dumped_file}
+use Rattle.mtune_core.specs.OutputLaws.{OutputPlaysTheSame}
+use Rattle.mtune_core.proofs.Dealt.{length_dealt}
+use Rattle.mtune_core.proofs.Premises.{SameLaws}
 use Rattle.mtune_core.proofs.SurveyFacts.{IsLow, low_note}
 use Rattle.mtune_core.proofs.Faultless.{taken_is_faultless}
 
@@ -64,6 +61,14 @@ pub values_fit : (table : Targets) → AllByRecursion IsTuningValue (values_from
 values_fit table = each_value table 0 128
 
 -- ---- the dump of the table's targets
+value_length : (v : Option ℕ) → length (value_bytes v) ≡ 3
+value_length None = refl
+value_length (Some v) = refl
+
+values_length : (vs : List (Option ℕ)) → length (flat_map value_bytes vs) ≡ 3 * length vs
+values_length [] = refl
+values_length (v ∷ vs) = omega (arith, value_length v, values_length vs, length-append (value_bytes v) (flat_map value_bytes vs))
+
 pub dump_length : (targets : List (Option ℕ)) → length targets ≡ 128 → length (dump_bytes 0 targets) ≡ 407
 dump_length targets all =
     let body = dump_body 0 targets in
@@ -71,9 +76,9 @@ dump_length targets all =
     let front : length body ≡ 21 + length (flat_map value_bytes targets) = omega arith in
     omega (arith, all, values, front, length-append body (xor_all body ∷ 0xf7 ∷ []))
 
-dump_of_table : (table : Targets) → IsDumpOf 0 (tuning_at table) (dump_bytes 0 (values_from (tuning_at table) 0 128))
-dump_of_table table = record {
-  reads = dump_again 0 (values_from (tuning_at table) 0 128) (omega arith) (values_count (tuning_at table) 0 128) (values_fit table);
+dump_of_table : DumpsAreReadAgain → (table : Targets) → IsDumpOf 0 (tuning_at table) (dump_bytes 0 (values_from (tuning_at table) 0 128))
+dump_of_table read_again table = record {
+  reads = read_again 0 (values_from (tuning_at table) 0 128) (omega arith) (values_count (tuning_at table) 0 128) (values_fit table);
   tuning = refl;
   no_reset = refl;
 }
@@ -99,32 +104,24 @@ has_target table k t one some = pick (table k 0) refl some
     pick (Some b) e h = (b, one ∙ e, h)
 
 -- ---- the whole file
-
--- what was dealt out to tracks, merged, is the list again
-abbrev pub DealtIsMerged : Type 0
-DealtIsMerged = (tracks : ℕ) (es : List MidiEvent) → InOrder es → AllByRecursion (λ e. e.track < tracks) es → merged_tracks (distributed tracks es) ≡ es
-
-pub plays_the_same : DealtIsMerged → (scaling : Scaling) (table : Targets) (source : MidiFile) → IsTable scaling table → AreFewTerms scaling → ((key onset : ℕ) → table key onset ≡ table key 0)
-    → IsPlayable (length source.tracks) (merged source) → AllByRecursion (λ e. is_taken e.what ≡ true) (merged source)
-    → ((k : ℕ) → k < 128 → uses_key k (merged source) ≡ true → is_some (tuning_at table k) ≡ true)
-    → PlaysTheSame scaling dump_options table source (dumped_file (values_from (tuning_at table) 0 128) source)
-plays_the_same again scaling table source bounds few one playable taken played =
+pub plays_the_same : SameLaws → OutputPlaysTheSame
+plays_the_same laws scaling table source bounds few one playable taken played =
     let es = merged source in
     let targets = values_from (tuning_at table) 0 128 in
     let bytes = dump_bytes 0 targets in
     let out = dumped dump_options bytes es in
     let n = length source.tracks in
     let long : length bytes ≡ 407 = dump_length targets (values_count (tuning_at table) 0 128) in
-    let dump_playable : IsPlayable n out = dumped_playable n dump_options bytes es (omega (arith, long)) (omega arith) playable in
+    let dump_playable : IsPlayable n out = laws.playable n dump_options bytes es (omega (arith, long)) (omega arith) playable in
     let shape : HasSameShape source (dumped_file targets source) = record { format = refl; division = refl; tracks = length_dealt 0 n out } in
     let dumpable : IsDumpable scaling dump_options table bytes es = record {
       route = refl;
       valid = playable.valid;
-      in_order = ticks_in_order es playable.in_order;
-      faultless = taken_is_faultless table es taken (λ k t h. has_target table k t (one k t) (played k (used_below k es playable.valid h) h));
+      in_order = laws.in_order n es playable;
+      faultless = taken_is_faultless laws.zones table es taken (λ k t h. has_target table k t (one k t) (played k (used_below k es playable.valid h) h));
       bounds = bounds;
       few_terms = few;
       one_table = one;
-      dump = dump_of_table table;
+      dump = dump_of_table laws.read_again table;
     } in
-    dump_file scaling dump_options table bytes source (dumped_file targets source) shape (again n out dump_playable.in_order dump_playable.in_tracks) dumpable
+    laws.same scaling dump_options table bytes source (dumped_file targets source) shape (laws.merged_again n out dump_playable.in_order dump_playable.in_tracks) dumpable

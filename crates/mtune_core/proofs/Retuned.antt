@@ -19,9 +19,10 @@ use Rattle.mtune_core.specs.Answers.{dumped_file, report_of, ArePlayed, IsRefusa
 use Rattle.mtune_core.specs.Causes.{table_fn, AreTaken, IsRetuned, InputCause}
 use Rattle.mtune_core.specs.Chosen.{uses_key}
 use Rattle.mtune_core.specs.Survey.{survey_of}
-use Rattle.mtune_core.proofs.PlaysSame.{DealtIsMerged, plays_the_same, values_are, values_count, dump_length}
+use Rattle.mtune_core.specs.OutputLaws.{OutputIsSpelt, OutputPlaysTheSame}
+use Rattle.mtune_core.proofs.PlaysSame.{values_are, values_count, dump_length}
 use Rattle.mtune_core.proofs.SurveyFacts.{found_keys, found_taken, found_untaken}
-use Rattle.mtune_core.proofs.Writable.{dumped_spells, division_below}
+use Rattle.mtune_core.proofs.Writable.{division_below}
 
 abbrev AreTargetsOf : KeyTable → List (Option ℕ) → Type 0
 AreTargetsOf table targets = (k : ℕ) → k < 128 → get_or targets k None ≡ tuning_if (table_of table k)
@@ -66,13 +67,13 @@ pub below : (xs : List ℕ) → ((i : ℕ) → Fits w8 (get_or xs i 0)) → AllB
 below [] h = tt
 below (x ∷ xs) h = (omega (arith, h 0), below xs (λ i. h (suc i)))
 
-pub made_is_retuned : DealtIsMerged → (r : Result Made Fault) (scaling : Scaling) (table : KeyTable) (input : List ℕ) (source : MidiFile) (targets : List (Option ℕ)) (found : Survey)
+pub made_is_retuned : OutputIsSpelt → OutputPlaysTheSame → (r : Result Made Fault) (scaling : Scaling) (table : KeyTable) (input : List ℕ) (source : MidiFile) (targets : List (Option ℕ)) (found : Survey)
     → IsTable scaling (table_fn table) → AreFewTerms scaling → Spells input source → length input ≤ 4194304 → AllByRecursion (λ (b : ℕ). b < 256) input
     → IsPlayable (length source.tracks) (merged source) → length targets ≡ 128 → AreTargetsOf table targets
     → found ≡ survey_of (merged source) → found.taken ≡ true → ArePlayed targets found.keys
     → IfOk r (λ made. made.output.items ≡ file_bytes (dumped_file targets source)) → IfOk r (λ made. made.report.items ≡ report_of (merged source))
     → IfOk r (λ made. IsRetuned scaling (table_fn table) input made.output.items made.report.items)
-made_is_retuned again (Ok made) scaling table input source targets found bounds few spelled short bytes playable full each is taken played output report =
+made_is_retuned spelt same_played (Ok made) scaling table input source targets found bounds few spelled short bytes playable full each is taken played output report =
     let values = values_from (tuning_at (table_fn table)) 0 128 in
     let same : targets ≡ values = exactly table targets full each in
     let text : made.output.items ≡ file_bytes (dumped_file values source) = output ∙ ap (λ (t : List (Option ℕ)). file_bytes (dumped_file t source)) same in
@@ -83,10 +84,10 @@ made_is_retuned again (Ok made) scaling table input source targets found bounds 
       spelled = spelled;
       taken = all_taken;
       is_out = subst (λ (b : List ℕ). Spells b (dumped_file values source)) (sym text)
-          (dumped_spells input source values spelled short (division_below input source spelled bytes) playable (dump_length values (values_count (tuning_at (table_fn table)) 0 128)));
-      same = plays_the_same again scaling (table_fn table) source bounds few (λ key onset. refl) playable all_taken (each_played table source targets found playable.valid each is played);
+          (spelt input source values spelled short (division_below input source spelled bytes) playable (dump_length values (values_count (tuning_at (table_fn table)) 0 128)));
+      same = same_played scaling (table_fn table) source bounds few (λ key onset. refl) playable all_taken (each_played table source targets found playable.valid each is played);
       exact_file = refl;
       exact_bytes = text;
       is_report = report;
     }
-made_is_retuned again (Err fault) scaling table input source targets found bounds few spelled short bytes playable full each is taken played output report = tt
+made_is_retuned spelt same_played (Err fault) scaling table input source targets found bounds few spelled short bytes playable full each is taken played output report = tt

@@ -12,19 +12,17 @@ use Rattle.midi_model.specs.FileText.{MidiFile}
 use Rattle.midi_model.specs.Merged.{InOrder, EndsOnce, of_track, IsPlayable, merged, timed}
 use Rattle.midi_model.specs.Spelling.{Spells}
 use Rattle.midi_model.specs.TuningBytes.{dump_bytes}
-use Rattle.midi_model.specs.Writing.{Written, written, track_bytes, file_bytes, IsWritable, IsWritableFile}
-use Rattle.midi_model.proofs.Merging.{before, each_weaker}
-use Rattle.midi_model.proofs.Spelt.{spelt_file}
+use Rattle.midi_model.specs.Writing.{Written, written, track_bytes, IsWritable, IsWritableFile}
 use Rattle.event_stream.specs.Distributed.{events_in, distributed}
-use Rattle.event_stream.proofs.Taking.{no_earlier}
-use Rattle.event_stream.proofs.Dealing.{each_picked, length_dealt, get_dealt}
 use Rattle.retune_model.specs.Dump.{from_up, has_note_on, dump_setup, dumped}
 use Rattle.retune_model.specs.Faults.{is_part}
-use Rattle.retune_model.proofs.DumpPlayable.{dumped_playable}
 use Rattle.mtune_core.specs.Answers.{dumped_file}
 use Rattle.mtune_core.specs.Chosen.{dump_options}
+use Rattle.mtune_core.specs.OutputLaws.{IsShortSetup, TracksAreShort, OutputIsSpelt}
+use Rattle.mtune_core.proofs.Premises.{SpeltLaws}
+use Rattle.mtune_core.proofs.Dealt.{length_dealt, get_dealt, each_weaker, each_picked, no_earlier}
 use Rattle.mtune_core.proofs.DumpOutput.{written_is_dump_output}
-use Rattle.mtune_core.proofs.Lengths.{IsShortSetup, one_if, each_if, short}
+use Rattle.mtune_core.proofs.Lengths.{one_if, each_if}
 
 -- ---- the tracks of a playable list
 
@@ -44,7 +42,7 @@ writable_from : (tick : ℕ) (es : List MidiEvent) → AllByRecursion (λ e. IsV
 writable_from tick [] valid order ended late = absurd ended
 writable_from tick (e ∷ []) valid order ended late = (late.0, valid.0.tick, valid.0.what, inl (ended, refl))
 writable_from tick (e ∷ f ∷ es) valid order ended late =
-    let later = each_weaker _ (λ g. e.tick ≤ g.tick) (f ∷ es) (λ g p. no_earlier e g (before e g p)) order.0 in
+    let later = each_weaker _ (λ g. e.tick ≤ g.tick) (f ∷ es) (λ g p. no_earlier e g p) order.0 in
     (late.0, valid.0.tick, valid.0.what, inr (ended.0, writable_from e.tick (f ∷ es) valid.1 order.1 ended.1 later))
 
 pub writable_track : (n t : ℕ) (es : List MidiEvent) → IsPlayable n es → t < n → IsWritable 0 (events_in t es)
@@ -76,9 +74,9 @@ short_tracks : (ts : List (List Timed)) → All (λ (w : Written). length w.byte
 short_tracks ts h = All-from_get_or (λ (es : List Timed). length (track_bytes es) < 2 ^ 32) ts [] (λ i lt.
     subst (λ (w : Written). length w.bytes < 2 ^ 32) (get_or-map written ts i [] (written []) lt) (h i (written []) (omega (arith, lt, length-map ts written))))
 
-dumped_short : (bytes : List ℕ) (source : MidiFile) (dump : List ℕ) → Spells bytes source → length bytes ≤ 4194304 → length dump ≡ 407
+dumped_short : TracksAreShort → (bytes : List ℕ) (source : MidiFile) (dump : List ℕ) → Spells bytes source → length bytes ≤ 4194304 → length dump ≡ 407
     → All (λ (es : List Timed). length (track_bytes es) < 2 ^ 32) (distributed (length source.tracks) (dumped dump_options dump (merged source)))
-dumped_short bytes source dump is few len =
+dumped_short short bytes source dump is few len =
     let s = dump_setup dump_options dump (merged source) in
     short_tracks (distributed (length source.tracks) (dumped dump_options dump (merged source)))
     (subst (λ es. All (λ (w : Written). length w.bytes < 2 ^ 32) (map written (distributed (length source.tracks) es))) (written_is_dump_output s (merged source))
@@ -115,17 +113,17 @@ division_below bytes source is h =
 -- ---- the file
 
 -- The output of the dump route can be written.
-pub dumped_is_written : (bytes : List ℕ) (source : MidiFile) (targets : List (Option ℕ)) → Spells bytes source → length bytes ≤ 4194304 → source.division < 2 ^ 16
+pub dumped_is_written : SpeltLaws → (bytes : List ℕ) (source : MidiFile) (targets : List (Option ℕ)) → Spells bytes source → length bytes ≤ 4194304 → source.division < 2 ^ 16
     → IsPlayable (length source.tracks) (merged source) → length (dump_bytes 0 targets) ≡ 407 → IsWritableFile (dumped_file targets source)
-dumped_is_written bytes source targets is few division plays len =
+dumped_is_written laws bytes source targets is few division plays len =
     let n = length source.tracks in
     let dump = dump_bytes 0 targets in
     let es = dumped dump_options dump (merged source) in
     let count : length (distributed n es) ≡ n = length_dealt 0 n es in
     let fields = is.are_fields in
     record {
-      tracks = all_writable n es (dumped_playable n dump_options dump (merged source) (omega (arith, len)) (lit≤ tt) plays);
-      short = dumped_short bytes source dump is few len;
+      tracks = all_writable n es (laws.playable n dump_options dump (merged source) (omega (arith, len)) (lit≤ tt) plays);
+      short = dumped_short laws.short bytes source dump is few len;
       one_or_more = omega (arith, count, fields.one_or_more);
       few = omega (arith, count, fields.few);
       format_0_or_1 = fields.format_0_or_1;
@@ -134,6 +132,6 @@ dumped_is_written bytes source targets is few division plays len =
     }
 
 -- The bytes of the output of the dump route spell it.
-pub dumped_spells : (bytes : List ℕ) (source : MidiFile) (targets : List (Option ℕ)) → Spells bytes source → length bytes ≤ 4194304 → source.division < 2 ^ 16
-    → IsPlayable (length source.tracks) (merged source) → length (dump_bytes 0 targets) ≡ 407 → Spells (file_bytes (dumped_file targets source)) (dumped_file targets source)
-dumped_spells bytes source targets is few division plays len = spelt_file (dumped_file targets source) (dumped_is_written bytes source targets is few division plays len)
+pub dumped_spells : SpeltLaws → OutputIsSpelt
+dumped_spells laws bytes source targets is few division plays len =
+    laws.spelt (dumped_file targets source) (dumped_is_written laws bytes source targets is few division plays len)

@@ -6,6 +6,7 @@ pub mod Survey
 pub mod Chosen
 pub mod Putting
 pub mod Answers
+pub mod OutputLaws
 pub mod Causes
 pub mod Call
 pub mod Accepted

@@ -5,6 +5,7 @@ mod accepted;
 mod call;
 mod contents;
 mod dump;
+mod laws;
 mod lines;
 mod making;
 mod outcome;

@@ -12,15 +12,16 @@ ghost use Rattle.mtune_core.specs.Putting.{written_from, view_setup};
 
 use crate::contents::read_input;
 use crate::dump::{Setup, translate};
+use crate::laws::{output_is_spelt, output_plays_the_same, puts_are_dealt, tracks_are_short};
 use crate::lines::report;
 use crate::outcome::Fault;
 use crate::survey::{Survey, look_through};
 use crate::targets::{Targets, targets};
-use event_stream::{Merge, TrackSet, distribution};
+use event_stream::{Merge, TrackSet};
 use key_pitch::KeyTable;
-use midi_model::writing_laws;
 use mt_base::Memory;
 use mts_msg::dump;
+use retune_model::dump_is_playable;
 use smf_read::Smf;
 use smf_write::finish;
 use std::alloc::Global;
@@ -82,7 +83,7 @@ fn output(alloc: Global, smf: &Smf<'_>, setup: &Setup) -> Result<Vec<u8>, Memory
     requires short { All (λ (text : Written). length text.bytes < 2 ^ 32) (map written (output_file (view_setup setup.now) (view_file smf.now)).tracks) }
     ensures { IfOk result (λ v. v.items ≡ file_bytes (output_file (view_setup setup.now) (view_file smf.now))) }
 {
-    writing_laws();
+    puts_are_dealt();
     let mut out = TrackSet::new(alloc, smf.tracks())?;
     translate(&mut Merge::new(smf), setup, &mut out)?;
     finish(alloc, smf.format(), smf.division(), out.into_tracks())
@@ -100,6 +101,8 @@ fn make(alloc: Global, smf: &Smf<'_>, targets: &Targets, found: &Survey) -> Resu
     ensures report { IfOk result (λ made. made.report.items ≡ report_of (merged (view_file smf.now))) }
     ensures memory { IfErr result (λ e. e ≡ Fault.Memory) }
 {
+    dump_is_playable();
+    tracks_are_short();
     let setup = Setup {
         parts: found.parts,
         dump: dump(PROGRAM, targets),
@@ -120,7 +123,8 @@ pub fn retuned(alloc: Global, table: &KeyTable, input: &[u8]) -> Result<Made, Fa
     ensures made { (scaling : Scaling) → IsTable scaling (table_fn table.now) → AreFewTerms scaling → IfOk result (λ made. IsRetuned scaling (table_fn table.now) input.now made.output.items made.report.items) }
     ensures cause { IfErr result (λ e. InputCause (table_fn table.now) input.now e) }
 {
-    distribution();
+    output_is_spelt();
+    output_plays_the_same();
     let targets = targets(table);
     match read_input(alloc, input) {
         Err(fault) => Err(fault),
