@@ -1,6 +1,7 @@
 -- What never changes of a note, and that at most one note sounds on a key.
-use Rattle.std.proofs.Common.{◌≡◌, ℕ, zero, suc, ◌+◌, ◌≤◌, List, [], ◌∷◌, ◌++◌, Bool, true, false, cond, ◌&&◌, Option, Some, None, refl, ap, sym, ◌∙◌, map, nat_eq, arith}
+use Rattle.std.proofs.Common.{◌≡◌, ℕ, zero, suc, ◌+◌, ◌≤◌, List, [], ◌∷◌, ◌++◌, Bool, true, false, cond, ◌&&◌, Option, Some, None, refl, ap, sym, ◌∙◌, subst, map, nat_eq, arith}
 use Rattle.std.proofs.lemmas.Bool.{eqb-true}
+use Rattle.std.proofs.lemmas.List.{append-nil}
 use Rattle.mt_base.specs.Midi.{MidiEvent}
 use Rattle.mt_base.specs.declared.event.Msg.{Msg}
 use Rattle.mt_base.specs.declared.event.Msg.TheVariants.{NoteOn, NoteOff, KeyPressure, Control, Program, Pressure, Bend}
@@ -10,6 +11,7 @@ use Rattle.midi_model.specs.Channel.{Channel, control_of, role}
 use Rattle.midi_model.specs.Zones.{Zones, governor}
 use Rattle.midi_model.specs.Notes.{Note, sounds, is_down, is_at, hears, is_pedal_down, ending, releasing, cut_off, release_key, with_pressure, sostenuto, without_pressure, end_all, release_all, Fades, sounding_on}
 use Rattle.midi_model.specs.Music.{Music, quiet, channel_at, begun, notes_turned, notes_after, is_over, settle_note, act, advance, step, play}
+use Rattle.midi_model.specs.MusicLaws.{AllFade, begun_by}
 
 fades_same : (n : Note) → Fades n n
 fades_same n = record { channel = refl; key = refl; onset = refl; velocity = refl; voice = refl; sounds = λ h. h }
@@ -68,11 +70,6 @@ pub fades_settle : (ss : List Channel) (z : Zones) (t : ℕ) (n : Note) → Fade
 fades_settle ss z t n = fades_if (is_over ss z n) n (ending t n) n (fades_ending t n) (fades_same n)
 
 -- of a list, note by note
-abbrev pub AllFade : List Note → List Note → Type 0
-AllFade [] [] = Unit {0}
-AllFade (n ∷ ns) (x ∷ xs) = Fades n x × AllFade ns xs
-AllFade _ _ = ⊥
-
 pub all_fade : (f : Note → Note) → ((n : Note) → Fades n (f n)) → (ns : List Note) → AllFade ns (map f ns)
 all_fade f h [] = tt
 all_fade f h (n ∷ ns) = (h n, all_fade f h ns)
@@ -102,6 +99,43 @@ fade_turned m t c n v NrpnHigh = all_same m.notes
 fade_turned m t c n v RpnLow = all_same m.notes
 fade_turned m t c n v RpnHigh = all_same m.notes
 fade_turned m t c n v Ignored = all_same m.notes
+
+all_then : (ns xs ys : List Note) → AllFade ns xs → AllFade xs ys → AllFade ns ys
+all_then [] [] [] h k = tt
+all_then [] [] (c ∷ ys) h k = absurd k
+all_then [] (b ∷ xs) ys h k = absurd h
+all_then (a ∷ ns) [] ys h k = absurd h
+all_then (a ∷ ns) (b ∷ xs) [] h k = absurd k
+all_then (a ∷ ns) (b ∷ xs) (c ∷ ys) h k = (fades_then a b c h.0 k.0, all_then ns xs ys h.1 k.1)
+
+and_one : (n : Note) (ns xs : List Note) → AllFade ns xs → AllFade (ns ++ n ∷ []) (xs ++ n ∷ [])
+and_one n [] [] h = (fades_same n, tt)
+and_one n [] (b ∷ xs) h = absurd h
+and_one n (a ∷ ns) [] h = absurd h
+and_one n (a ∷ ns) (b ∷ xs) h = (h.0, and_one n ns xs h.1)
+
+and_none : (ns xs : List Note) → AllFade ns xs → AllFade (ns ++ []) xs
+and_none ns xs h = subst (λ zs. AllFade zs xs) (sym (append-nil ns)) h
+
+-- the notes after a message, before they settle
+faded_message : (m : Music) (t : ℕ) (msg : Msg) → AllFade (m.notes ++ begun_by m t (Plays msg)) (notes_after m t msg)
+faded_message m t (NoteOn c k zero) = and_none m.notes _ (all_fade (release_key t c k 64) (fades_lift t c k 64) m.notes)
+faded_message m t (NoteOn c k (suc v)) = and_one (begun m t c k (suc v)) m.notes _ (all_fade (cut_off t c k) (fades_cut t c k) m.notes)
+faded_message m t (NoteOff c k v) = and_none m.notes _ (all_fade (release_key t c k v) (fades_lift t c k v) m.notes)
+faded_message m t (KeyPressure c k v) = and_none m.notes _ (all_fade (with_pressure c k v) (fades_press c k v) m.notes)
+faded_message m t (Control c n v) = and_none m.notes _ (fade_turned m t c n v (role n))
+faded_message m t (Program c p) = and_none m.notes _ (all_same m.notes)
+faded_message m t (Pressure c v) = and_none m.notes _ (all_same m.notes)
+faded_message m t (Bend c v) = and_none m.notes _ (all_same m.notes)
+
+-- the notes after an event: those from before and the one that it begins, faded
+pub faded_after : (m : Music) (t : ℕ) (d : Doing) → AllFade (m.notes ++ begun_by m t d) (advance t d m).notes
+faded_after m t (Plays msg) =
+    let a : Music = act t msg m in
+    all_then (m.notes ++ begun_by m t (Plays msg)) a.notes _ (faded_message m t msg) (all_fade (settle_note a.channels a.zones t) (fades_settle a.channels a.zones t) a.notes)
+faded_after m t Resets = and_none m.notes _ (all_fade (ending t) (fades_ending t) m.notes)
+faded_after m t (Tunes r) = and_none m.notes _ (all_same m.notes)
+faded_after m t Nothing = and_none m.notes _ (all_same m.notes)
 
 -- how many sound on a key never grows while notes fade
 fewer : (c k : ℕ) (ns xs : List Note) → AllFade ns xs → sounding_on c k xs ≤ sounding_on c k ns

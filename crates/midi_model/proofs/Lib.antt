@@ -16,12 +16,10 @@ pub mod Ending
 pub mod Same
 pub mod Steady
 pub mod Timely
-pub mod Begun
 pub mod Channels
 pub mod Fades
 pub mod Parameters
 pub mod Equal
-pub mod Played
 pub mod Writes
 pub mod Spelt
 pub mod Sizes

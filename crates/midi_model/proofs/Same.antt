@@ -1,16 +1,8 @@
 -- Music doesn't hear tuning.
-use Rattle.std.proofs.Common.{◌≡◌, List, [], ◌∷◌, ◌++◌, refl, ap, sym, ◌∙◌}
+use Rattle.std.proofs.Common.{◌≡◌, List, [], ◌∷◌, refl, ap, sym, ◌∙◌}
 use Rattle.mt_base.specs.Midi.{MidiEvent}
-use Rattle.midi_model.specs.Music.{Music, quiet, play, step}
-use Rattle.midi_model.specs.Receiver.{Receiver, start, receive, receive_all, after}
-
-pub play-append : (m : Music) (xs ys : List MidiEvent) → play m (xs ++ ys) ≡ play (play m xs) ys
-play-append m [] ys = refl
-play-append m (x ∷ xs) ys = play-append (step m x) xs ys
-
-pub receive_all-append : (r : Receiver) (xs ys : List MidiEvent) → receive_all r (xs ++ ys) ≡ receive_all (receive_all r xs) ys
-receive_all-append r [] ys = refl
-receive_all-append r (x ∷ xs) ys = receive_all-append (receive r x) xs ys
+use Rattle.midi_model.specs.Music.{play}
+use Rattle.midi_model.specs.Receiver.{Receiver, receive, receive_all}
 
 -- a receiver's music is the music that was played
 pub music_all : (r : Receiver) (es : List MidiEvent) → (receive_all r es).music ≡ play r.music es

@@ -1,18 +1,18 @@
 -- What is written spells the file.
-use Rattle.std.proofs.Common.{◌≡◌, ℕ, zero, suc, ◌+◌, ◌-◌, ◌*◌, ◌/◌, ◌%◌, ◌^◌, ◌<◌, ◌≤◌, ◌⊎◌, List, [], ◌∷◌, ◌++◌, length, map, Bool, true, false, ltb, eqb, refl, sym, ap, subst, ◌∙◌, inl, inr, arith, append_assoc, lit≤, lit<}
+use Rattle.std.proofs.Common.{◌≡◌, ℕ, ◌+◌, ◌-◌, ◌*◌, ◌/◌, ◌%◌, ◌^◌, ◌<◌, ◌≤◌, List, [], ◌∷◌, ◌++◌, length, map, false, ltb, eqb, refl, sym, ap, ◌∙◌, inl, inr, arith, lit≤, lit<}
 use Rattle.std.specs.List.{AllByRecursion, All}
 use Rattle.std.proofs.lemmas.List.Elements.{All-head, All-tail}
 use Rattle.std.proofs.lemmas.Bool.{lt-ltb, le-ltb, eqb-true, cases_Bool, ltb-true, ltb-false}
-use Rattle.std.proofs.lemmas.List.{append-nil, length-map}
+use Rattle.std.proofs.lemmas.List.{append-nil}
 use Rattle.std.proofs.lemmas.Nat.{from_be_bytes-to_be_bytes_2, from_be_bytes-to_be_bytes_4}
 use Rattle.std.specs.Int.{w16, w32, to_be_bytes}
 use Rattle.mt_base.specs.declared.event.Msg.{Msg}
 use Rattle.mt_base.specs.declared.event.Msg.TheVariants.{NoteOff, NoteOn, KeyPressure, Control, Program, Pressure, Bend}
-use Rattle.mt_base.specs.Midi.{MidiWhat, Says, SysexOf, MetaOf, Timed, is_end}
+use Rattle.mt_base.specs.Midi.{MidiWhat, Says, SysexOf, MetaOf, Timed}
 use Rattle.mt_base.specs.Valid.{IsValidMsg, IsValidWhat}
-use Rattle.midi_model.specs.Reading.{long_msg, short_msg, IsLong}
+use Rattle.midi_model.specs.Reading.{long_msg, short_msg}
 use Rattle.midi_model.specs.FileText.{MidiFile}
-use Rattle.midi_model.specs.Spelling.{IsDigits, IsQuantity, IsMessage, IsBody, IsEvent, IsTrack, IsNumber, IsChunk, AreSkipped, IsTrackChunk, AreTracks, IsFields, Spells}
+use Rattle.midi_model.specs.Spelling.{IsDigits, IsQuantity, IsMessage, IsBody, IsEvent, IsTrack, IsNumber, IsTrackChunk, AreTracks, Spells}
 use Rattle.midi_model.specs.Writing.{quantity_bytes, status_of, data_of, running_after, body_bytes, event_bytes, events_bytes, track_bytes, chunk_bytes, chunks_bytes, header_bytes, file_bytes, IsWritable, IsWritableFile}
 
 -- ---- quantities

@@ -7,11 +7,8 @@ use Rattle.midi_model.specs.Sysex.{Doing, Plays, Resets, Tunes, Nothing, doing}
 use Rattle.midi_model.specs.Channel.{Channel, apply}
 use Rattle.midi_model.specs.Zones.{Zones, bend_ranges, bend_ranges_from}
 use Rattle.midi_model.specs.Notes.{Note, ending}
-use Rattle.midi_model.specs.Music.{Music, quiet, channel_at, asks, zones_after, channels_after, act, is_over, settle_note, advance, step, play}
-
-pub record Steady (m : Music) : Type 0 where
-  pub settled : (t : ℕ) → map (settle_note m.channels m.zones t) m.notes ≡ m.notes
-  pub wide : length m.channels ≡ 16
+use Rattle.midi_model.specs.Music.{Music, quiet, channel_at, asks, zones_after, channels_after, act, is_over, settle_note, advance, step}
+use Rattle.midi_model.specs.MusicLaws.{IsSettled}
 
 ending_twice_at : (t u : ℕ) (n : Note) (e : Option ℕ) → (let x : Note = record n { ended = e } in ending u (ending t x) ≡ ending t x)
 ending_twice_at t u n None = refl
@@ -64,24 +61,17 @@ length-channels m msg =
     let c : ℕ = channel_of msg in
     length-bend_ranges (asks m msg) (zones_after m msg) (set m.channels c (apply (channel_at m c) msg)) ∙ length-set m.channels c (apply (channel_at m c) msg)
 
-pub steady-quiet : Steady quiet
-steady-quiet = record { settled = λ t. refl; wide = refl }
-
-pub steady-advance : (m : Music) (t : ℕ) (d : Doing) → Steady m → Steady (advance t d m)
-steady-advance m t (Plays msg) h = record {
-  settled = λ u. all_settled (channels_after m msg) (zones_after m msg) t u (act t msg m).notes;
-  wide = length-channels m msg ∙ h.wide;
+settled_advance : (m : Music) (t : ℕ) (d : Doing) → IsSettled m → IsSettled (advance t d m)
+settled_advance m t (Plays msg) h = record {
+  notes = λ u. all_settled (channels_after m msg) (zones_after m msg) t u (act t msg m).notes;
+  channels = length-channels m msg ∙ h.channels;
 }
-steady-advance m t Resets h = record {
-  settled = λ u. all_ended quiet.channels quiet.zones t u m.notes;
-  wide = refl;
+settled_advance m t Resets h = record {
+  notes = λ u. all_ended quiet.channels quiet.zones t u m.notes;
+  channels = refl;
 }
-steady-advance m t (Tunes r) h = h
-steady-advance m t Nothing h = h
+settled_advance m t (Tunes r) h = h
+settled_advance m t Nothing h = h
 
-pub steady-step : (m : Music) (e : MidiEvent) → Steady m → Steady (step m e)
-steady-step m e h = steady-advance m e.tick (doing e.what) h
-
-pub steady-play : (m : Music) (es : List MidiEvent) → Steady m → Steady (play m es)
-steady-play m [] h = h
-steady-play m (e ∷ es) h = steady-play (step m e) es (steady-step m e h)
+pub settled_step : (m : Music) (e : MidiEvent) → IsSettled m → IsSettled (step m e)
+settled_step m e h = settled_advance m e.tick (doing e.what) h

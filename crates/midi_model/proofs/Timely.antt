@@ -1,5 +1,5 @@
 -- Where events come in the order of their ticks, no note ends before it began.
-use Rattle.std.proofs.Common.{◌≡◌, ℕ, zero, suc, ◌≤◌, List, [], ◌∷◌, ◌++◌, Bool, true, false, cond, ◌&&◌, Option, Some, None, refl, ap, map, nat_eq, arith}
+use Rattle.std.proofs.Common.{◌≡◌, ℕ, zero, suc, ◌≤◌, List, [], ◌∷◌, ◌++◌, Bool, true, false, cond, ◌&&◌, Some, map, nat_eq, arith}
 use Rattle.std.specs.List.{AllByRecursion}
 use Rattle.mt_base.specs.Midi.{MidiEvent}
 use Rattle.mt_base.specs.declared.event.Msg.{Msg}

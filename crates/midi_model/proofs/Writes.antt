@@ -1,5 +1,5 @@
 -- What is written, event by event.
-use Rattle.std.proofs.Common.{◌≡◌, ℕ, ◌+◌, ◌≤◌, List, [], ◌∷◌, ◌++◌, length, Bool, false, refl, sym, ap, ◌∙◌, append_assoc, arith}
+use Rattle.std.proofs.Common.{◌≡◌, ℕ, List, [], ◌∷◌, ◌++◌, Bool, false, refl, sym, ap, ◌∙◌, append_assoc}
 use Rattle.std.proofs.lemmas.List.{append-nil}
 use Rattle.mt_base.specs.Midi.{Timed, is_end}
 use Rattle.midi_model.specs.Writing.{events_bytes, event_bytes, running_after, last_tick, last_running, is_ended, Written, written, with_event}

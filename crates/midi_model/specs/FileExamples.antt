@@ -1,5 +1,5 @@
 -- Short forms for worked files.
-use Rattle.std.specs.Prelude.{ℕ, List, [], ◌∷◌, ◌++◌, length}
+use Rattle.std.specs.Prelude.{ℕ, List, [], ◌∷◌, length}
 use Rattle.mt_base.specs.Midi.{Timed, MidiWhat}
 
 -- the bytes of a file of format 0 with division 96, whose only track has these fewer than 256 bytes of content, from

@@ -15,6 +15,7 @@ pub mod Zones
 pub mod Notes
 pub mod Music
 pub mod Tuning
+pub mod MusicLaws
 pub mod Receiver
 pub mod Played
 pub mod Bring

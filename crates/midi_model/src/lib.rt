@@ -3,6 +3,7 @@
 
 mod bytes;
 mod fault;
+mod music;
 mod order;
 mod params;
 mod reading;
@@ -13,6 +14,7 @@ mod writing;
 
 pub use bytes::size_laws;
 pub use fault::{SmfKind, Stop};
+pub use music::music_laws;
 pub use order::{merged_example, merged_order};
 pub use params::parameter_laws;
 pub use reading::reading_laws;

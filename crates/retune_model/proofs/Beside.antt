@@ -1,14 +1,14 @@
 -- Where what is written stands beside the source's events, the output is playable like its source.
-use Rattle.std.proofs.Common.{◌≡◌, ℕ, ◌<◌, List, [], ◌∷◌, ◌++◌, Bool, true, false, cond, eqb, refl, sym, ap, subst, ◌∙◌, inl, inr, filter, arith}
+use Rattle.std.proofs.Common.{◌≡◌, ℕ, ◌<◌, ◌≤◌, ◌⊎◌, List, [], ◌∷◌, ◌++◌, Bool, true, false, cond, eqb, refl, sym, ap, subst, ◌∙◌, inl, inr, filter, arith}
 use Rattle.std.specs.List.{AllByRecursion}
-use Rattle.std.proofs.lemmas.Bool.{cases_Bool}
+use Rattle.std.proofs.lemmas.Bool.{cases_Bool, eq-eqb, ne_eqb, le-leb, lt-ltb}
 use Rattle.std.proofs.lemmas.List.Elements.{filter-append}
 use Rattle.mt_base.specs.Midi.{MidiEvent, is_end}
 use Rattle.mt_base.specs.Valid.{IsValidEvent}
 use Rattle.midi_model.specs.Merged.{precedes, InOrder, EndsOnce, of_track, IsPlayable}
-use Rattle.midi_model.proofs.Merging.{each_weaker, each_append, is_before}
 use Rattle.retune_model.specs.Blocks.{Block, all_events, written}
 use Rattle.retune_model.specs.Routes.{translated}
+use Rattle.retune_model.proofs.Fronts.{all_weaker, all_append}
 
 -- an event that was put beside another: at its tick, in its track, valid and no end of track
 pub record Beside (e x : MidiEvent) : Type 0 where
@@ -35,7 +35,7 @@ same_written : (e : MidiEvent) (b : Block) → b.event ≡ e → written b ≡ a
 same_written e b h = ap (λ x. all_events b.before ++ x ∷ all_events b.behind) h
 
 each_beside : (P : ℕ → ℕ → Type 0) (e : MidiEvent) (xs : List MidiEvent) → P e.tick e.track → AllByRecursion (λ x. Beside e x) xs → AllByRecursion (λ x. P x.tick x.track) xs
-each_beside P e xs p h = each_weaker (λ x. Beside e x) (λ x. P x.tick x.track) xs (λ x b. subst (λ t. P t x.track) (sym b.tick) (subst (λ t. P e.tick t) (sym b.track) p)) h
+each_beside P e xs p h = all_weaker (λ x. Beside e x) (λ x. P x.tick x.track) (λ x b. subst (λ t. P t x.track) (sym b.tick) (subst (λ t. P e.tick t) (sym b.track) p)) xs h
 
 -- what each source event has by its tick and track, all that is written has
 pub each_written : {S : Type 0} (block : S → MidiEvent → Block) (next : S → MidiEvent → S) (P : ℕ → ℕ → Type 0) → StandAll block
@@ -45,15 +45,15 @@ each_written block next P stand s (e ∷ es) v h =
     let k : Stands e (block s e) = stand s e v.0 in
     let Q : List MidiEvent → Type 0 = λ l. AllByRecursion (λ x. P x.tick x.track) (l ++ translated block next (next s e) es) in
     subst Q (sym (same_written e (block s e) k.event))
-    (each_append (λ x. P x.tick x.track) (around (all_events (block s e).before) e (all_events (block s e).behind)) (translated block next (next s e) es)
-    (each_append (λ x. P x.tick x.track) (all_events (block s e).before) (e ∷ all_events (block s e).behind)
+    (all_append (λ x. P x.tick x.track) (around (all_events (block s e).before) e (all_events (block s e).behind)) (translated block next (next s e) es)
+    (all_append (λ x. P x.tick x.track) (all_events (block s e).before) (e ∷ all_events (block s e).behind)
     (each_beside P e (all_events (block s e).before) h.0 k.before)
     (h.0, each_beside P e (all_events (block s e).behind) h.0 k.behind))
     (each_written block next P stand (next s e) es v.1 h.1))
 
 -- all is valid
 valid_beside : (e : MidiEvent) (xs : List MidiEvent) → AllByRecursion (λ x. Beside e x) xs → AllByRecursion (λ x. IsValidEvent x) xs
-valid_beside e xs h = each_weaker (λ x. Beside e x) (λ x. IsValidEvent x) xs (λ x b. b.valid) h
+valid_beside e xs h = all_weaker (λ x. Beside e x) (λ x. IsValidEvent x) (λ x b. b.valid) xs h
 
 valid_written : {S : Type 0} (block : S → MidiEvent → Block) (next : S → MidiEvent → S) → StandAll block
     → (s : S) (es : List MidiEvent) → AllByRecursion (λ e. IsValidEvent e) es → AllByRecursion (λ e. IsValidEvent e) (translated block next s es)
@@ -62,8 +62,8 @@ valid_written block next stand s (e ∷ es) v =
     let k : Stands e (block s e) = stand s e v.0 in
     let Q : List MidiEvent → Type 0 = λ l. AllByRecursion (λ x. IsValidEvent x) (l ++ translated block next (next s e) es) in
     subst Q (sym (same_written e (block s e) k.event))
-    (each_append (λ x. IsValidEvent x) (around (all_events (block s e).before) e (all_events (block s e).behind)) (translated block next (next s e) es)
-    (each_append (λ x. IsValidEvent x) (all_events (block s e).before) (e ∷ all_events (block s e).behind)
+    (all_append (λ x. IsValidEvent x) (around (all_events (block s e).before) e (all_events (block s e).behind)) (translated block next (next s e) es)
+    (all_append (λ x. IsValidEvent x) (all_events (block s e).before) (e ∷ all_events (block s e).behind)
     (valid_beside e (all_events (block s e).before) k.before)
     (v.0, valid_beside e (all_events (block s e).behind) k.behind))
     (valid_written block next stand (next s e) es v.1))
@@ -71,6 +71,11 @@ valid_written block next stand s (e ∷ es) v =
 -- in order
 abbrev at : ℕ → ℕ → MidiEvent → MidiEvent
 at t track e = record e { tick = t; track = track }
+
+-- an event at an earlier tick, or at the same one and in no later track, may stand before another
+is_before : (e f : MidiEvent) → (e.tick < f.tick) ⊎ ((e.tick ≡ f.tick) × (e.track ≤ f.track)) → precedes e f ≡ true
+is_before e f (inl l) = rw (ne_eqb e.tick f.tick (λ z. omega (arith, z, l))) (lt-ltb e.tick f.tick l)
+is_before e f (inr (same, l)) = rw (eq-eqb e.tick f.tick same) (le-leb e.track f.track l)
 
 itself : (e : MidiEvent) → precedes e e ≡ true
 itself e = is_before e e (inr (refl, omega arith))
@@ -81,8 +86,8 @@ order_beside e [] ys h p o = o
 order_beside e (x ∷ xs) ys h p o =
     let P : ℕ → ℕ → Type 0 = λ t track. (y : MidiEvent) → precedes (at t track e) y ≡ precedes e y in
     let same : (y : MidiEvent) → precedes x y ≡ precedes e y = subst (λ t. (y : MidiEvent) → precedes (at t x.track e) y ≡ precedes e y) (sym h.0.tick) (subst (λ t. (y : MidiEvent) → precedes (at e.tick t e) y ≡ precedes e y) (sym h.0.track) (λ y. refl)) in
-    let all : AllByRecursion (λ y. precedes e y ≡ true) (xs ++ ys) = each_append (λ y. precedes e y ≡ true) xs ys (each_beside (λ t track. precedes e (at t track e) ≡ true) e xs (itself e) h.1) p in
-    (each_weaker (λ y. precedes e y ≡ true) (λ y. precedes x y ≡ true) (xs ++ ys) (λ y q. same y ∙ q) all, order_beside e xs ys h.1 p o)
+    let all : AllByRecursion (λ y. precedes e y ≡ true) (xs ++ ys) = all_append (λ y. precedes e y ≡ true) xs ys (each_beside (λ t track. precedes e (at t track e) ≡ true) e xs (itself e) h.1) p in
+    (all_weaker (λ y. precedes e y ≡ true) (λ y. precedes x y ≡ true) (λ y q. same y ∙ q) (xs ++ ys) all, order_beside e xs ys h.1 p o)
 
 order_written : {S : Type 0} (block : S → MidiEvent → Block) (next : S → MidiEvent → S) → StandAll block
     → (s : S) (es : List MidiEvent) → AllByRecursion (λ e. IsValidEvent e) es → InOrder es → InOrder (translated block next s es)
@@ -93,7 +98,7 @@ order_written block next stand s (e ∷ es) v o =
     let behind : List MidiEvent = all_events (block s e).behind in
     let rest : List MidiEvent = translated block next (next s e) es in
     let later : AllByRecursion (λ y. precedes e y ≡ true) rest = each_written block next (λ t track. precedes e (at t track e) ≡ true) stand (next s e) es v.1 o.0 in
-    let in_group : AllByRecursion (λ y. precedes e y ≡ true) (behind ++ rest) = each_append (λ y. precedes e y ≡ true) behind rest (each_beside (λ t track. precedes e (at t track e) ≡ true) e behind (itself e) k.behind) later in
+    let in_group : AllByRecursion (λ y. precedes e y ≡ true) (behind ++ rest) = all_append (λ y. precedes e y ≡ true) behind rest (each_beside (λ t track. precedes e (at t track e) ≡ true) e behind (itself e) k.behind) later in
     let from_event : InOrder (e ∷ (behind ++ rest)) = (in_group, order_beside e behind rest k.behind later (order_written block next stand (next s e) es v.1 o.1)) in
     let whole : InOrder (before ++ (e ∷ (behind ++ rest))) = order_beside e before (e ∷ (behind ++ rest)) k.before (itself e, in_group) from_event in
     let Q : List MidiEvent → Type 0 = λ l. InOrder l in
@@ -138,7 +143,7 @@ none_there t [] h = refl
 none_there t (e ∷ es) h = ap (λ b. cond b (e ∷ of_track t es) (of_track t es)) h.0 ∙ none_there t es h.1
 
 not_ends : (t : ℕ) (e : MidiEvent) (xs : List MidiEvent) → AllByRecursion (λ x. Beside e x) xs → AllByRecursion (λ x. is_end x.what ≡ false) (of_track t xs)
-not_ends t e xs h = filter_each (λ (x : MidiEvent). eqb x.track t) (λ x. is_end x.what ≡ false) xs (each_weaker (λ x. Beside e x) (λ x. is_end x.what ≡ false) xs (λ x b. b.not_end) h)
+not_ends t e xs h = filter_each (λ (x : MidiEvent). eqb x.track t) (λ x. is_end x.what ≡ false) xs (all_weaker (λ x. Beside e x) (λ x. is_end x.what ≡ false) (λ x b. b.not_end) xs h)
 
 one_more : (b : Bool) (x : MidiEvent) (whole front back : List MidiEvent) → whole ≡ front ++ back → cond b (x ∷ whole) whole ≡ cond b (x ∷ front) front ++ back
 one_more true x whole front back h = ap (λ l. x ∷ l) h

@@ -13,14 +13,15 @@ use Rattle.retune_model.specs.PlaysTheSame.{PlaysTheSameMusic, KeepsOtherEvents,
 use Rattle.retune_model.specs.Faults.{Targets}
 use Rattle.retune_model.specs.Dump.{dumped}
 use Rattle.retune_model.specs.Dumpable.{IsDumpable}
+use Rattle.retune_model.proofs.Laws.{Laws}
 use Rattle.retune_model.proofs.DumpSame.{dump_plays_the_same}
 use Rattle.retune_model.proofs.Others.{others_kept, drums_kept}
 
-pub dump_file : (scaling : Scaling) (o : Options) (table : Targets) (bytes : List ℕ) (source out : MidiFile) → HasSameShape source out → merged out ≡ dumped o bytes (merged source)
+pub dump_file : (laws : Laws) (scaling : Scaling) (o : Options) (table : Targets) (bytes : List ℕ) (source out : MidiFile) → HasSameShape source out → merged out ≡ dumped o bytes (merged source)
     → IsDumpable scaling o table bytes (merged source) → PlaysTheSame scaling o table source out
-dump_file scaling o table bytes source out shape is d = record {
+dump_file laws scaling o table bytes source out shape is d = record {
   shape = shape;
-  music = subst (λ x. PlaysTheSameMusic scaling o table (merged source) x) (sym is) (dump_plays_the_same scaling o table bytes (merged source) d);
+  music = subst (λ x. PlaysTheSameMusic scaling o table (merged source) x) (sym is) (dump_plays_the_same laws scaling o table bytes (merged source) d);
   others = subst (λ x. KeepsOtherEvents o (merged source) x) (sym is) (others_kept scaling o table bytes (merged source) d);
   drums = subst (λ x. KeepsDrums o (merged source) x) (sym is) (drums_kept o bytes (merged source));
 }

@@ -7,17 +7,17 @@ use Rattle.mt_base.specs.Valid.{IsValidEvent}
 use Rattle.mt_base.specs.declared.event.Msg.TheVariants.{Control}
 use Rattle.midi_model.specs.Sysex.{Doing, Plays, Resets, Tunes, Nothing, doing, is_reset}
 use Rattle.midi_model.specs.Merged.{IsPlayable}
-use Rattle.midi_model.proofs.Merging.{each_append}
 use Rattle.retune_model.specs.Blocks.{Group, all_events, events_of}
 use Rattle.retune_model.specs.Routes.{Setup, IsHarmless, sends, selects, setup_at, dump_before, dump_behind, dump_next, dump_block}
 use Rattle.retune_model.specs.Options.{Options}
 use Rattle.retune_model.specs.Faults.{is_part}
 use Rattle.retune_model.specs.Dump.{has_note_on, from_up, sounding_parts, dump_if, dump_setup, dumped}
+use Rattle.retune_model.proofs.Fronts.{all_append}
 use Rattle.retune_model.proofs.Beside.{Beside, Stands, written_playable, filter_each}
 
-all_append : (xs ys : List Group) → all_events (xs ++ ys) ≡ all_events xs ++ all_events ys
-all_append [] ys = refl
-all_append (x ∷ xs) ys = ap (λ l. events_of x ++ l) (all_append xs ys) ∙ sym (append_assoc (events_of x) (all_events xs) (all_events ys))
+all_groups : (xs ys : List Group) → all_events (xs ++ ys) ≡ all_events xs ++ all_events ys
+all_groups [] ys = refl
+all_groups (x ∷ xs) ys = ap (λ l. events_of x ++ l) (all_groups xs ys) ∙ sym (append_assoc (events_of x) (all_events xs) (all_events ys))
 
 -- what a setup has to be so that it can be written
 pub record IsWritableSetup (s : Setup) : Type 0 where
@@ -50,8 +50,8 @@ beside_selects e p (c ∷ cs) v low h = (
 
 beside_setup : (s : Setup) (e : MidiEvent) → IsWritableSetup s → IsValidEvent e → AllByRecursion (λ x. Beside e x) (all_events (setup_at s e))
 beside_setup s e h v =
-    subst (λ l. AllByRecursion (λ x. Beside e x) l) (sym (all_append (sends e.tick e.track s.dumps) (selects e.tick e.track s.program s.channels)))
-    (each_append (λ x. Beside e x) (all_events (sends e.tick e.track s.dumps)) (all_events (selects e.tick e.track s.program s.channels))
+    subst (λ l. AllByRecursion (λ x. Beside e x) l) (sym (all_groups (sends e.tick e.track s.dumps) (selects e.tick e.track s.program s.channels)))
+    (all_append (λ x. Beside e x) (all_events (sends e.tick e.track s.dumps)) (all_events (selects e.tick e.track s.program s.channels))
     (beside_sends e s.dumps v h.dumps) (beside_selects e s.program s.channels v h.program h.channels))
 
 beside_before : (s : Setup) (b : Bool) (e : MidiEvent) (d : Doing) → IsWritableSetup s → IsValidEvent e → AllByRecursion (λ x. Beside e x) (all_events (dump_before s b e d))

@@ -11,10 +11,9 @@ use Rattle.midi_model.specs.Notes.{Note, sounds, cut_off}
 use Rattle.midi_model.specs.Music.{Music, quiet, begun, act, settle_note, advance, step, play}
 use Rattle.midi_model.specs.Tuning.{Tuning, untuned, tuning_after}
 use Rattle.midi_model.specs.Receiver.{Receiver, start, receive, receive_all, after}
-use Rattle.midi_model.proofs.Steady.{Steady, steady-quiet, steady-step}
-use Rattle.midi_model.proofs.Same.{music_all, receive_all-append}
-use Rattle.midi_model.proofs.Begun.{AllNotes}
-use Rattle.midi_model.proofs.Fades.{fades_settle}
+use Rattle.retune_model.proofs.Steady.{Steady, steady-quiet, steady-step}
+use Rattle.retune_model.proofs.Steady.{music_all, receive_all-append}
+use Rattle.retune_model.proofs.Begun.{AllNotes}
 use Rattle.retune_model.specs.Table.{Scaling}
 use Rattle.retune_model.specs.Options.{Options, ByDump, bends_notes, keeps_drums, is_retuned}
 use Rattle.retune_model.specs.PlaysTheSame.{Pairwise, until, at_tick, retuned_notes, key_of, bend_target_if, output_key, IsSameNote, HasSameNotes, SoundsTheSame, HasSameSound, Beginning, last_note, beginning, beginnings_from, BeginsAlike, BeginsTheSame, PlaysTheSameMusic}
@@ -24,6 +23,7 @@ use Rattle.retune_model.specs.Routes.{Setup, IsHarmless, tuned_by, tuning_run, d
 use Rattle.retune_model.specs.Plain.{is_plain, ArePlain, IsTuned, has_begun}
 use Rattle.retune_model.specs.Dump.{dump_setup, dumped}
 use Rattle.retune_model.specs.Dumpable.{IsDumpable}
+use Rattle.retune_model.proofs.Laws.{Laws}
 use Rattle.retune_model.proofs.SameMusic.{Ready, dump_keeps, unselected-quiet}
 use Rattle.retune_model.proofs.Tunings.{made, groups_received, received}
 use Rattle.retune_model.proofs.Tuned.{Tells, tells_next, tells_run}
@@ -106,8 +106,8 @@ same_sound scaling o table bytes source m w u g z tuned n h = record {
 }
 
 -- the premises, for a source and its setup
-serves : (scaling : Scaling) (o : Options) (table : Targets) (bytes : List ℕ) (es : List MidiEvent) → IsDumpable scaling o table bytes es → Serves scaling o table (dump_setup o bytes es) bytes
-serves scaling o table bytes es d = record { route = d.route; bounds = d.bounds; few_terms = d.few_terms; one_table = d.one_table; dump = d.dump }
+serves : (laws : Laws) (scaling : Scaling) (o : Options) (table : Targets) (bytes : List ℕ) (es : List MidiEvent) → IsDumpable scaling o table bytes es → Serves scaling o table (dump_setup o bytes es) bytes
+serves laws scaling o table bytes es d = record { laws = laws.pitch; route = d.route; bounds = d.bounds; few_terms = d.few_terms; one_table = d.one_table; dump = d.dump }
 
 pub known : (o : Options) (es : List MidiEvent) → AllByRecursion IsValidEvent es → AllByRecursion (IsKnown o es) es
 known o es h = all_known o es es h (all_show o es)
@@ -120,18 +120,18 @@ record IsFront (o : Options) (table : Targets) (bytes : List ℕ) (source xs : L
   output : after (dump_output (dump_setup o bytes source) xs) ≡ made (play quiet xs) tuning
   tells : Tells (dump_setup o bytes source) (has_begun false xs) tuning
 
-front : (scaling : Scaling) (o : Options) (table : Targets) (bytes : List ℕ) (es xs ys : List MidiEvent) → IsDumpable scaling o table bytes es → es ≡ xs ++ ys → IsFront o table bytes es xs
-front scaling o table bytes es xs ys d e =
+front : (laws : Laws) (scaling : Scaling) (o : Options) (table : Targets) (bytes : List ℕ) (es xs ys : List MidiEvent) → IsDumpable scaling o table bytes es → es ≡ xs ++ ys → IsFront o table bytes es xs
+front laws scaling o table bytes es xs ys d e =
     let s : Setup = dump_setup o bytes es in
     let harmless : IsHarmless s = setup_harmless o bytes es d.dump.no_reset in
     let clean : IsFaultless o table quiet xs = faultless_front o table quiet xs ys (subst (λ z. IsFaultless o table quiet z) e d.faultless) in
     let plain : ArePlain (is_part o) quiet xs = plain_front (is_part o) quiet xs ys (subst (λ z. ArePlain (is_part o) quiet z) e (all_plain o table quiet es d.valid d.faultless)) in
     let all : AllByRecursion (IsKnown o es) xs = all_front (IsKnown o es) xs ys (subst (λ z. AllByRecursion (IsKnown o es) z) e (known o es d.valid)) in
     record {
-      served = served_play o table bytes es quiet xs d.route clean all tt;
+      served = served_play laws.fade o table bytes es quiet xs d.route clean all tt;
       zones = zones_play o table quiet xs clean refl;
       tuning = tuning_run (dump_block s) (λ c x. dump_next c (doing x.what)) false quiet untuned xs;
-      output = received (dump_block s) (λ c x. dump_next c (doing x.what)) Ready (dump_keeps s harmless) false start xs steady-quiet (unselected-quiet quiet refl);
+      output = received (dump_block s) (λ c x. dump_next c (doing x.what)) Ready (dump_keeps s harmless) false start xs (steady-quiet laws.settled) (unselected-quiet quiet refl);
       tells = tells_run s (is_part o) false quiet xs untuned harmless (setup_parts o bytes es) plain (refl, refl);
     }
 
@@ -139,10 +139,10 @@ front scaling o table bytes es xs ys d e =
 pub source_music : (xs : List MidiEvent) → after xs ≡ made (play quiet xs) (after xs).tuning
 source_music xs = ap (λ m. made m (after xs).tuning) (music_all start xs)
 
-notes_at : (scaling : Scaling) (o : Options) (table : Targets) (bytes : List ℕ) (es xs ys : List MidiEvent) (part : ℕ → Bool) → IsDumpable scaling o table bytes es → es ≡ xs ++ ys
+notes_at : (laws : Laws) (scaling : Scaling) (o : Options) (table : Targets) (bytes : List ℕ) (es xs ys : List MidiEvent) (part : ℕ → Bool) → IsDumpable scaling o table bytes es → es ≡ xs ++ ys
     → Pairwise (IsSameNote (output_key o table)) (retuned_notes part (after xs)) (retuned_notes part (after (dump_output (dump_setup o bytes es) xs)))
-notes_at scaling o table bytes es xs ys part d e =
-    let f = front scaling o table bytes es xs ys d e in
+notes_at laws scaling o table bytes es xs ys part d e =
+    let f = front laws scaling o table bytes es xs ys d e in
     let P : Receiver → Type 0 = λ r. Pairwise (IsSameNote (output_key o table)) (retuned_notes part r) (retuned_notes part (after (dump_output (dump_setup o bytes es) xs))) in
     let Q : Receiver → Type 0 = λ r. Pairwise (IsSameNote (output_key o table)) (retuned_notes part (made (play quiet xs) (after xs).tuning)) (retuned_notes part r) in
     subst P (sym (source_music xs)) (subst Q (sym f.output)
@@ -165,11 +165,11 @@ sound_alike scaling o table bytes source false m w u g tuned none served z =
     let P : List Note → Type 0 = λ ns. Pairwise (λ a c. sounds a ≡ true → SoundsTheSame scaling o (made m w) (made m u) a c) (filter (λ n. part n.channel) ns) (filter (λ n. part n.channel) ns) in
     subst P (sym (none refl)) tt
 
-sound_at : (scaling : Scaling) (o : Options) (table : Targets) (bytes : List ℕ) (es xs ys : List MidiEvent) → IsDumpable scaling o table bytes es → es ≡ xs ++ ys
+sound_at : (laws : Laws) (scaling : Scaling) (o : Options) (table : Targets) (bytes : List ℕ) (es xs ys : List MidiEvent) → IsDumpable scaling o table bytes es → es ≡ xs ++ ys
     → Pairwise (λ a b. sounds a ≡ true → SoundsTheSame scaling o (after xs) (after (dump_output (dump_setup o bytes es) xs)) a b)
     (retuned_notes (is_retuned (keeps_drums o es)) (after xs)) (retuned_notes (is_retuned (keeps_drums o es)) (after (dump_output (dump_setup o bytes es) xs)))
-sound_at scaling o table bytes es xs ys d e =
-    let f = front scaling o table bytes es xs ys d e in
+sound_at laws scaling o table bytes es xs ys d e =
+    let f = front laws scaling o table bytes es xs ys d e in
     let part : ℕ → Bool = is_retuned (keeps_drums o es) in
     let m : Music = play quiet xs in
     let w : Tuning = (after xs).tuning in
@@ -177,24 +177,24 @@ sound_at scaling o table bytes es xs ys d e =
     let P : Receiver → Type 0 = λ r. Pairwise (R r (after (dump_output (dump_setup o bytes es) xs))) (retuned_notes part r) (retuned_notes part (after (dump_output (dump_setup o bytes es) xs))) in
     let Q : Receiver → Type 0 = λ r. Pairwise (R (made m w) r) (retuned_notes part (made m w)) (retuned_notes part r) in
     subst P (sym (source_music xs)) (subst Q (sym f.output)
-    (sound_alike scaling o table bytes es (has_begun false xs) m w f.tuning (serves scaling o table bytes es d) f.tells (λ h. unbegun false quiet xs h refl) f.served f.zones))
+    (sound_alike scaling o table bytes es (has_begun false xs) m w f.tuning (serves laws scaling o table bytes es d) f.tells (λ h. unbegun false quiet xs h refl) f.served f.zones))
 
-pub same_notes : (scaling : Scaling) (o : Options) (table : Targets) (bytes : List ℕ) (es : List MidiEvent) → IsDumpable scaling o table bytes es → HasSameNotes (output_key o table) (is_retuned (keeps_drums o es)) es (dumped o bytes es)
-same_notes scaling o table bytes es d t =
+pub same_notes : (laws : Laws) (scaling : Scaling) (o : Options) (table : Targets) (bytes : List ℕ) (es : List MidiEvent) → IsDumpable scaling o table bytes es → HasSameNotes (output_key o table) (is_retuned (keeps_drums o es)) es (dumped o bytes es)
+same_notes laws scaling o table bytes es d t =
     let c = split t 0 es d.in_order in
     let part : ℕ → Bool = is_retuned (keeps_drums o es) in
     let P : List MidiEvent → Type 0 = λ x. Pairwise (IsSameNote (output_key o table)) (retuned_notes part (after x)) (retuned_notes part (at_tick t (dumped o bytes es))) in
     let Q : List MidiEvent → Type 0 = λ y. Pairwise (IsSameNote (output_key o table)) (retuned_notes part (after c.early)) (retuned_notes part (after y)) in
-    subst P (sym (until_source t es c)) (subst Q (sym (until_output t (dump_setup o bytes es) es c)) (notes_at scaling o table bytes es c.early c.late part d c.is))
+    subst P (sym (until_source t es c)) (subst Q (sym (until_output t (dump_setup o bytes es) es c)) (notes_at laws scaling o table bytes es c.early c.late part d c.is))
 
-pub same_sounds : (scaling : Scaling) (o : Options) (table : Targets) (bytes : List ℕ) (es : List MidiEvent) → IsDumpable scaling o table bytes es → HasSameSound scaling o (is_retuned (keeps_drums o es)) es (dumped o bytes es)
-same_sounds scaling o table bytes es d t =
+pub same_sounds : (laws : Laws) (scaling : Scaling) (o : Options) (table : Targets) (bytes : List ℕ) (es : List MidiEvent) → IsDumpable scaling o table bytes es → HasSameSound scaling o (is_retuned (keeps_drums o es)) es (dumped o bytes es)
+same_sounds laws scaling o table bytes es d t =
     let c = split t 0 es d.in_order in
     let part : ℕ → Bool = is_retuned (keeps_drums o es) in
     let R : List MidiEvent → List MidiEvent → Type 0 = λ x y. Pairwise (λ a b. sounds a ≡ true → SoundsTheSame scaling o (after x) (after y) a b) (retuned_notes part (after x)) (retuned_notes part (after y)) in
     let P : List MidiEvent → Type 0 = λ x. R x (until t (dumped o bytes es)) in
     let Q : List MidiEvent → Type 0 = λ y. R c.early y in
-    subst P (sym (until_source t es c)) (subst Q (sym (until_output t (dump_setup o bytes es) es c)) (sound_at scaling o table bytes es c.early c.late d c.is))
+    subst P (sym (until_source t es c)) (subst Q (sym (until_output t (dump_setup o bytes es) es c)) (sound_at laws scaling o table bytes es c.early c.late d c.is))
 
 -- ---- right from its beginning
 pub no_beginning : (part : ℕ → Bool) (r : Receiver) (g : Group) (ys : List MidiEvent) → beginnings_from part r (events_of g ++ ys) ≡ beginnings_from part (receive_all r (events_of g)) ys
@@ -224,7 +224,7 @@ pub last_begun : (part : ℕ → Bool) (m : Music) (t c k v : ℕ) → part c �
 last_begun part m t c k v h =
     let a : Music = act t (NoteOn c k (suc v)) m in
     last_added (λ n. part n.channel ≡ true) (settle_note a.channels a.zones t) (map (cut_off t c k) m.notes) (begun m t c k (suc v))
-    (ap part (fades_settle a.channels a.zones t (begun m t c k (suc v))).channel ∙ h)
+    h
 
 last_alike : (scaling : Scaling) (o : Options) (table : Targets) (bytes : List ℕ) (source : List MidiEvent) (m : Music) (w u : Tuning) (track : ℕ) (ns : List Note) → Serves scaling o table (dump_setup o bytes source) bytes
     → m.zones ≡ no_zones → IsTuned (dump_setup o bytes source) u → AllNotes (IsServed o table bytes source) ns → LastHas (λ n. is_retuned (keeps_drums o source) n.channel ≡ true) ns
@@ -244,13 +244,13 @@ abbrev pub event : ℕ → ℕ → MidiWhat → MidiEvent
 event t track what = record { tick = t; track = track; what = what }
 
 -- one event: m is the music after it
-one_alike : (scaling : Scaling) (o : Options) (table : Targets) (bytes : List ℕ) (source : List MidiEvent) (b : Bool) (m : Music) (w u : Tuning) (t track : ℕ) (what : MidiWhat)
+one_alike : (laws : Laws) (scaling : Scaling) (o : Options) (table : Targets) (bytes : List ℕ) (source : List MidiEvent) (b : Bool) (m : Music) (w u : Tuning) (t track : ℕ) (what : MidiWhat)
     → IsDumpable scaling o table bytes source → is_plain (is_part o) m (doing what) ≡ true → Tells (dump_setup o bytes source) b u
     → (step m (event t track what)).zones ≡ no_zones → AllNotes (IsServed o table bytes source) (step m (event t track what)).notes
     → Pairwise (BeginsAlike scaling o)
     (beginning (is_retuned (keeps_drums o source)) (receive (made m w) (event t track what)) (event t track what))
     (beginning (is_retuned (keeps_drums o source)) (receive (made m (tuned_by (dump_before (dump_setup o bytes source) b (event t track what) (doing what)) u)) (event t track what)) (event t track what))
-one_alike scaling o table bytes source b m w u t track (Says (NoteOn c k (suc v))) d plain tells z served = pick (is_retuned (keeps_drums o source) c) refl
+one_alike laws scaling o table bytes source b m w u t track (Says (NoteOn c k (suc v))) d plain tells z served = pick (is_retuned (keeps_drums o source) c) refl
   where
     part : ℕ → Bool
     part = is_retuned (keeps_drums o source)
@@ -264,19 +264,19 @@ one_alike scaling o table bytes source b m w u t track (Says (NoteOn c k (suc v)
     pick : (x : Bool) → part c ≡ x → Pairwise (BeginsAlike scaling o)
         (cond x (last_note (made now (tuning_after m (Plays (NoteOn c k (suc v))) w)) track now.notes) [])
         (cond x (last_note (made now heard_tuning) track now.notes) [])
-    pick true h = last_alike scaling o table bytes source now (tuning_after m (Plays (NoteOn c k (suc v))) w) heard_tuning track now.notes (serves scaling o table bytes source d) z
+    pick true h = last_alike scaling o table bytes source now (tuning_after m (Plays (NoteOn c k (suc v))) w) heard_tuning track now.notes (serves laws scaling o table bytes source d) z
         (tuned_now (dump_setup o bytes source) (is_part o) b m (event t track (Says (NoteOn c k (suc v)))) (NoteOn c k (suc v)) u (setup_harmless o bytes source d.dump.no_reset) (setup_parts o bytes source) plain tells)
         served (last_begun part m t c k v h)
     pick false h = tt
-one_alike scaling o table bytes source b m w u t track (Says (NoteOn c k zero)) d plain tells z served = tt
-one_alike scaling o table bytes source b m w u t track (Says (NoteOff c k v)) d plain tells z served = tt
-one_alike scaling o table bytes source b m w u t track (Says (KeyPressure c k v)) d plain tells z served = tt
-one_alike scaling o table bytes source b m w u t track (Says (Control c n v)) d plain tells z served = tt
-one_alike scaling o table bytes source b m w u t track (Says (Program c p)) d plain tells z served = tt
-one_alike scaling o table bytes source b m w u t track (Says (Pressure c v)) d plain tells z served = tt
-one_alike scaling o table bytes source b m w u t track (Says (Bend c v)) d plain tells z served = tt
-one_alike scaling o table bytes source b m w u t track (SysexOf lead bs) d plain tells z served = tt
-one_alike scaling o table bytes source b m w u t track (MetaOf kind bs) d plain tells z served = tt
+one_alike laws scaling o table bytes source b m w u t track (Says (NoteOn c k zero)) d plain tells z served = tt
+one_alike laws scaling o table bytes source b m w u t track (Says (NoteOff c k v)) d plain tells z served = tt
+one_alike laws scaling o table bytes source b m w u t track (Says (KeyPressure c k v)) d plain tells z served = tt
+one_alike laws scaling o table bytes source b m w u t track (Says (Control c n v)) d plain tells z served = tt
+one_alike laws scaling o table bytes source b m w u t track (Says (Program c p)) d plain tells z served = tt
+one_alike laws scaling o table bytes source b m w u t track (Says (Pressure c v)) d plain tells z served = tt
+one_alike laws scaling o table bytes source b m w u t track (Says (Bend c v)) d plain tells z served = tt
+one_alike laws scaling o table bytes source b m w u t track (SysexOf lead bs) d plain tells z served = tt
+one_alike laws scaling o table bytes source b m w u t track (MetaOf kind bs) d plain tells z served = tt
 
 -- the beginnings of a block and of what follows it
 block_beginnings : (part : ℕ → Bool) (s : Setup) (b : Bool) (m : Music) (u : Tuning) (e : MidiEvent) (rest : List MidiEvent) → Steady m
@@ -294,12 +294,12 @@ block_beginnings part s b m u e rest st before behind =
     ∙ ap (λ x. beginning part (receive r e) e ++ x)
     (no_beginnings part (receive r e) hs rest ∙ ap (λ x. beginnings_from part x rest) (groups_received (receive r e) hs (steady-step m e st) behind))
 
-begin_run : (scaling : Scaling) (o : Options) (table : Targets) (bytes : List ℕ) (source : List MidiEvent) (b : Bool) (m : Music) (w u : Tuning) (es : List MidiEvent)
+begin_run : (laws : Laws) (scaling : Scaling) (o : Options) (table : Targets) (bytes : List ℕ) (source : List MidiEvent) (b : Bool) (m : Music) (w u : Tuning) (es : List MidiEvent)
     → IsDumpable scaling o table bytes source → Steady m → Ready b m → Tells (dump_setup o bytes source) b u → m.zones ≡ no_zones → AllNotes (IsServed o table bytes source) m.notes
     → IsFaultless o table m es → ArePlain (is_part o) m es → AllByRecursion (IsKnown o source) es
     → Pairwise (BeginsAlike scaling o) (beginnings_from (is_retuned (keeps_drums o source)) (made m w) es) (beginnings_from (is_retuned (keeps_drums o source)) (made m u) (blocks (dump_setup o bytes source) b es))
-begin_run scaling o table bytes source b m w u [] d st ready tells z served f plain all = tt
-begin_run scaling o table bytes source b m w u (e ∷ es) d st ready tells z served f plain all =
+begin_run laws scaling o table bytes source b m w u [] d st ready tells z served f plain all = tt
+begin_run laws scaling o table bytes source b m w u (e ∷ es) d st ready tells z served f plain all =
     let s : Setup = dump_setup o bytes source in
     let part : ℕ → Bool = is_retuned (keeps_drums o source) in
     let harmless : IsHarmless s = setup_harmless o bytes source d.dump.no_reset in
@@ -308,21 +308,21 @@ begin_run scaling o table bytes source b m w u (e ∷ es) d st ready tells z ser
     let v : Tuning = tuned_by (dump_before s b e (doing e.what)) u in
     let next : Tuning = tuned_by (dump_behind s b e (doing e.what)) (tuning_after m (doing e.what) v) in
     let z_now : (step m e).zones ≡ no_zones = no_zones_step o table m e f.0 z in
-    let served_now : AllNotes (IsServed o table bytes source) (step m e).notes = served_step o table bytes source m e d.route f.0 all.0 served in
+    let served_now : AllNotes (IsServed o table bytes source) (step m e).notes = served_step laws.fade o table bytes source m e d.route f.0 all.0 served in
     let P : List Beginning → Type 0 = λ x. Pairwise (BeginsAlike scaling o) (beginnings_from part (made m w) (e ∷ es)) x in
     subst P (sym (block_beginnings part s b m u e rest st k.before k.behind))
     (pairwise_append (BeginsAlike scaling o) (beginning part (receive (made m w) e) e) (beginnings_from part (receive (made m w) e) es) (beginning part (receive (made m v) e) e) (beginnings_from part (made (step m e) next) rest)
-    (one_alike scaling o table bytes source b m w u e.tick e.track e.what d plain.0 tells z_now served_now)
-    (begin_run scaling o table bytes source (dump_next b (doing e.what)) (step m e) (tuning_after m (doing e.what) w) next es d (steady-step m e st) k.ready
+    (one_alike laws scaling o table bytes source b m w u e.tick e.track e.what d plain.0 tells z_now served_now)
+    (begin_run laws scaling o table bytes source (dump_next b (doing e.what)) (step m e) (tuning_after m (doing e.what) w) next es d (steady-step m e st) k.ready
     (tells_next s (is_part o) b m e (doing e.what) u harmless (setup_parts o bytes source) plain.0 tells) z_now served_now f.1 plain.1 all.1))
 
-pub same_beginnings : (scaling : Scaling) (o : Options) (table : Targets) (bytes : List ℕ) (es : List MidiEvent) → IsDumpable scaling o table bytes es → BeginsTheSame scaling o (is_retuned (keeps_drums o es)) es (dumped o bytes es)
-same_beginnings scaling o table bytes es d =
-    begin_run scaling o table bytes es false quiet untuned untuned es d steady-quiet (unselected-quiet quiet refl) (refl, refl) refl tt d.faultless (all_plain o table quiet es d.valid d.faultless) (known o es d.valid)
+pub same_beginnings : (laws : Laws) (scaling : Scaling) (o : Options) (table : Targets) (bytes : List ℕ) (es : List MidiEvent) → IsDumpable scaling o table bytes es → BeginsTheSame scaling o (is_retuned (keeps_drums o es)) es (dumped o bytes es)
+same_beginnings laws scaling o table bytes es d =
+    begin_run laws scaling o table bytes es false quiet untuned untuned es d (steady-quiet laws.settled) (unselected-quiet quiet refl) (refl, refl) refl tt d.faultless (all_plain o table quiet es d.valid d.faultless) (known o es d.valid)
 
-pub dump_plays_the_same : (scaling : Scaling) (o : Options) (table : Targets) (bytes : List ℕ) (es : List MidiEvent) → IsDumpable scaling o table bytes es → PlaysTheSameMusic scaling o table es (dumped o bytes es)
-dump_plays_the_same scaling o table bytes es d = record {
-  notes = same_notes scaling o table bytes es d;
-  sound = same_sounds scaling o table bytes es d;
-  beginnings = same_beginnings scaling o table bytes es d;
+pub dump_plays_the_same : (laws : Laws) (scaling : Scaling) (o : Options) (table : Targets) (bytes : List ℕ) (es : List MidiEvent) → IsDumpable scaling o table bytes es → PlaysTheSameMusic scaling o table es (dumped o bytes es)
+dump_plays_the_same laws scaling o table bytes es d = record {
+  notes = same_notes laws scaling o table bytes es d;
+  sound = same_sounds laws scaling o table bytes es d;
+  beginnings = same_beginnings laws scaling o table bytes es d;
 }

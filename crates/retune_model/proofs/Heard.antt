@@ -1,16 +1,18 @@
 -- A retuned note of the dump route is played within the bound of its source pitch.
 use Rattle.std.proofs.Common.{◌≡◌, ◌≤◌, ◌<◌, ◌+◌, ◌*◌, ℕ, zero, suc, List, [], ◌∷◌, Bool, true, false, cond, ◌&&◌, nat_eq, Option, Some, None, refl, ap, sym, ◌∙◌, subst, arith, inl, inr, ℤ, pos, ◌+ℤ◌}
+use Rattle.std.specs.Option.{unwrap_or}
 use Rattle.std.proofs.lemmas.Int.{ints}
 use Rattle.std.proofs.lemmas.Bool.{cases_eq, eq-eqb, eqb-true}
+use Rattle.std.proofs.lemmas.Bool.Decides.{nat_tests}
 use Rattle.mt_base.specs.Pitch.{Pitch, exactly, added, Within}
 use Rattle.midi_model.specs.Channel.{Channel}
-use Rattle.midi_model.specs.Zones.{no_zones}
+use Rattle.midi_model.specs.Zones.{no_zones, master}
 use Rattle.midi_model.specs.Notes.{Note}
 use Rattle.midi_model.specs.Music.{Music, channel_at}
 use Rattle.midi_model.specs.Tuning.{Tuning, selected_of, renew, retuned}
 use Rattle.midi_model.specs.TuningBytes.{numbered}
-use Rattle.midi_model.specs.Played.{played, in_steps, fine, coarse, bent}
-use Rattle.midi_model.proofs.Played.{played_alone}
+use Rattle.midi_model.specs.Receiver.{Receiver}
+use Rattle.midi_model.specs.Played.{played, in_steps, by_program, fine, coarse, bent, bends}
 use Rattle.retune_model.specs.Table.{Scaling, pitch_at, terms_at, ratios_at_key, Bounds, AreBounds, Bound, IsTable, AreFewTerms, tuning_target}
 use Rattle.retune_model.specs.Options.{Options, Route, ByDump, half_step, bound}
 use Rattle.retune_model.specs.Source.{moved, heard_if, source_pitch}
@@ -19,8 +21,25 @@ use Rattle.retune_model.specs.Routes.{Setup}
 use Rattle.retune_model.specs.Plain.{valued, told, IsTuned}
 use Rattle.retune_model.specs.Faults.{Targets}
 use Rattle.retune_model.specs.Dump.{tuning_if, tuning_at, values_from, IsDumpOf}
+use Rattle.retune_model.proofs.Laws.{PitchLaws}
 use Rattle.retune_model.proofs.Tunings.{made}
 use Rattle.retune_model.proofs.Rounded.{heard_within}
+
+-- without zones a channel is nobody's member
+no_master : (c : ℕ) → master no_zones c ≡ None
+no_master c = grind (arith, nat_tests)
+
+-- a note's pitch, by the master and the program of the channel that governs
+abbrev pitch_by : Receiver → Note → Option ℕ → Option ℕ → ℤ
+pitch_by r n m p =
+    let s = channel_at r.music (unwrap_or m n.channel) in
+    ((by_program r.tuning p n.key +ℤ fine s) +ℤ coarse s) +ℤ bends r n.channel m
+
+pub played_alone : (r : Receiver) (n : Note) (p : ℕ) → r.music.zones ≡ no_zones → selected_of r.tuning n.channel ≡ Some p
+    → played r n ≡ ((in_steps n.key (r.tuning.values p n.key) +ℤ fine (channel_at r.music n.channel)) +ℤ coarse (channel_at r.music n.channel)) +ℤ bent (channel_at r.music n.channel)
+played_alone r n p z e =
+    let none : master r.music.zones n.channel ≡ None = ap (λ x. master x n.channel) z ∙ no_master n.channel in
+    ap (λ m. pitch_by r n m (selected_of r.tuning (unwrap_or m n.channel))) none ∙ ap (λ q. pitch_by r n None q) e
 
 -- each of n keys from k on, with what it is told
 abbrev each_key : (ℕ → Option ℕ) → ℕ → ℕ → List (ℕ × Option ℕ)
@@ -94,6 +113,7 @@ has_pitch scaling table k t b is low e =
 
 -- what all notes of the route need
 pub record Serves (scaling : Scaling) (o : Options) (table : Targets) (s : Setup) (bytes : List ℕ) : Type 0 where
+  pub laws : PitchLaws
   pub route : o.route ≡ ByDump
   pub bounds : IsTable scaling table
   pub few_terms : AreFewTerms scaling
@@ -111,7 +131,7 @@ heard scaling o table s bytes m u n g z tuned h =
     played_alone (made m u) n s.program z (h.selected u tuned) ∙ ap (λ w. ((in_steps n.key w +ℤ fine c) +ℤ coarse c) +ℤ bent c) value in
     let again : ((pos (195312500 * h.value) +ℤ fine c) +ℤ coarse c) +ℤ bent c ≡ pos (195312500 * h.value) +ℤ x = regroup (pos (195312500 * h.value)) (fine c) (coarse c) (bent c) in
     let near : Within (added p.pitch (exactly x)) (played (made m u) n) (97656250 + 32000000) =
-    heard_within p.pitch (terms_at scaling n.key n.onset) (ratios_at_key scaling n.key n.onset) h.bounds h.value x (played (made m u) n) p.bounds (g.few_terms n.key n.onset (omega (arith, h.low))) h.target (sum ∙ again) in
+    heard_within g.laws p.pitch (terms_at scaling n.key n.onset) (ratios_at_key scaling n.key n.onset) h.bounds h.value x (played (made m u) n) p.bounds (g.few_terms n.key n.onset (omega (arith, h.low))) h.target (sum ∙ again) in
     let P : Route → Type 0 = λ r. Within (added p.pitch (exactly ((fine c +ℤ coarse c) +ℤ moved r o.range c))) (played (made m u) n) (half_step r o.range + 32000000) in
     let Q : Option Pitch → Type 0 = λ q. IsWithin (heard_if o c q) (played (made m u) n) (bound o) in
     subst Q (sym p.is) (subst P (sym g.route) near)

@@ -1,3 +1,5 @@
+pub mod Laws
+pub mod Steady
 pub mod Silent
 pub mod Same
 pub mod SameMusic
@@ -9,12 +11,13 @@ pub mod Fewest
 pub mod Places
 pub mod Placed
 pub mod SamePairs
+pub mod Fronts
+pub mod Begun
 pub mod Beside
 pub mod DumpPlayable
 pub mod Faultless
 pub mod Rounded
 pub mod Heard
-pub mod Fronts
 pub mod Served
 pub mod DumpSame
 pub mod Others

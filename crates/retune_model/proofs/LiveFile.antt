@@ -18,6 +18,7 @@ use Rattle.retune_model.specs.Blocks.{Sends, all_events}
 use Rattle.retune_model.specs.Routes.{Setup, Live, Told, nothing_told, dump_before, dump_behind, change_due, live_before, live_next}
 use Rattle.retune_model.specs.Dump.{live_setup, told_live}
 use Rattle.retune_model.specs.Dumpable.{IsLivable}
+use Rattle.retune_model.proofs.Laws.{Laws}
 use Rattle.retune_model.proofs.Fronts.{all_weaker}
 use Rattle.retune_model.proofs.Served.{setup_parts}
 use Rattle.retune_model.proofs.Others.{filter_twice, filter_timed, none_pass, none_behind, Refuses, is_other, is_other_untuned, selects_refused, all_untuned, other_by_test, is_drum_on, drums_by_test, neither, selects_no_drums, not_nine, kept_by, every_same}
@@ -96,11 +97,11 @@ drums_kept o change es keeps track =
     ∙ ap (map timed) (passed (is_drum_on track) (is_drum_on track) l nothing_told es refused (every_same (is_drum_on track) es))
     ∙ sym (drums_by_test track es)
 
-pub live_file : (scaling : Scaling) (o : Options) (table : Targets) (change : ℕ → List ℕ) (source out : MidiFile) → HasSameShape source out → merged out ≡ told_live o change (merged source)
+pub live_file : (laws : Laws) (scaling : Scaling) (o : Options) (table : Targets) (change : ℕ → List ℕ) (source out : MidiFile) → HasSameShape source out → merged out ≡ told_live o change (merged source)
     → IsLivable scaling o table change (merged source) → PlaysTheSame scaling o table source out
-live_file scaling o table change source out shape is d = record {
+live_file laws scaling o table change source out shape is d = record {
   shape = shape;
-  music = subst (λ x. PlaysTheSameMusic scaling o table (merged source) x) (sym is) (live_plays_the_same scaling o table change (merged source) d);
+  music = subst (λ x. PlaysTheSameMusic scaling o table (merged source) x) (sym is) (live_plays_the_same laws scaling o table change (merged source) d);
   others = subst (λ x. KeepsOtherEvents o (merged source) x) (sym is) (others_kept scaling o table change (merged source) d);
   drums = subst (λ x. KeepsDrums o (merged source) x) (sym is) (drums_kept o change (merged source));
 }

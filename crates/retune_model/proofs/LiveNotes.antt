@@ -14,10 +14,10 @@ use Rattle.midi_model.specs.Channel.{Channel}
 use Rattle.midi_model.specs.Zones.{no_zones}
 use Rattle.midi_model.specs.Notes.{Note, sounds, ending, Fades}
 use Rattle.midi_model.specs.Music.{Music, channel_at, begun, advance, step}
+use Rattle.midi_model.specs.MusicLaws.{NotesFade}
 use Rattle.midi_model.specs.Tuning.{Tuning, selected_of}
 use Rattle.midi_model.specs.Played.{played, in_steps, fine, coarse, bent}
-use Rattle.midi_model.proofs.Played.{played_alone}
-use Rattle.midi_model.proofs.Begun.{AllNotes, Begins, BeginsIn, BeginsA, all_step, all_played, all_silent}
+use Rattle.retune_model.proofs.Begun.{AllNotes, Begins, BeginsIn, BeginsA, all_step, all_advanced, all_silent}
 use Rattle.retune_model.specs.Table.{Scaling, terms_at, ratios_at_key, Bounds, IsTable, AreFewTerms, tuning_target}
 use Rattle.retune_model.specs.Options.{Options, Route, ByLive, has_drums, keeps_drums, is_retuned, half_step, bound}
 use Rattle.retune_model.specs.Source.{moved, heard_if, source_pitch}
@@ -26,8 +26,9 @@ use Rattle.retune_model.specs.Faults.{Targets, is_part, has_target, misses_targe
 use Rattle.retune_model.specs.Routes.{Live, Told, keys_told, live_next}
 use Rattle.retune_model.specs.Plain.{IsTold}
 use Rattle.retune_model.specs.Dump.{has_note_on, tuning_if, told_value, live_setup}
+use Rattle.retune_model.proofs.Laws.{PitchLaws}
 use Rattle.retune_model.proofs.Faultless.{IsFine, fine as fine_message}
-use Rattle.retune_model.proofs.Heard.{has_pitch}
+use Rattle.retune_model.proofs.Heard.{played_alone, has_pitch}
 use Rattle.retune_model.proofs.Rounded.{heard_within}
 use Rattle.retune_model.proofs.Served.{Shows, IsKnown, found, unless, still_part, of_passed}
 use Rattle.retune_model.proofs.Told.{AllHave}
@@ -81,9 +82,9 @@ begins_what o table change source m after t (Says msg) route one f valid shows =
 begins_what o table change source m after t (SysexOf lead bs) route one f valid shows = tt
 begins_what o table change source m after t (MetaOf kind bs) route one f valid shows = tt
 
-pub tellable_step : (o : Options) (table : Targets) (change : ℕ → List ℕ) (source : List MidiEvent) (m : Music) (e : MidiEvent) → o.route ≡ ByLive → ((key onset : ℕ) → table key onset ≡ table key 0)
+pub tellable_step : NotesFade → (o : Options) (table : Targets) (change : ℕ → List ℕ) (source : List MidiEvent) (m : Music) (e : MidiEvent) → o.route ≡ ByLive → ((key onset : ℕ) → table key onset ≡ table key 0)
     → fault_at o table m e ≡ None → IsKnown o source e → AllNotes (IsTellableIn o table change source) m.notes → AllNotes (IsTellableIn o table change source) (step m e).notes
-tellable_step o table change source m e route one f known h = all_step (IsTellableIn o table change source) m e h (begins_what o table change source m (step m e) e.tick e.what route one f known.0.what known.1)
+tellable_step fade o table change source m e route one f known h = all_step fade (IsTellableIn o table change source) m e h (begins_what o table change source m (step m e) e.tick e.what route one f known.0.what known.1)
 
 -- ---- what a sounding note was told
 abbrev pub IsToldNote : (ℕ → Bool) → Told → Note → Type 0
@@ -110,8 +111,8 @@ told_stays l part s msg [] h = tt
 told_stays l part s msg (n ∷ ns) h = ((λ on is. let x = h.0 on is in (keys_stay l s.keys msg n.key x.0, refl)), told_stays l part s msg ns h.1)
 
 -- the note that a message begins is told with it
-told_begun : (l : Live) (part : ℕ → Bool) (s : Told) (m : Music) (t : ℕ) (msg : Msg) → ((c k v : ℕ) → msg ≡ NoteOn c k (suc v) → part c ≡ true → l.is_retuned c ≡ true) → BeginsA (IsToldNote part (live_next l s (Plays msg))) m t msg
-told_begun l part s m t (NoteOn c k (suc v)) h = λ on is. (or_left (l.is_retuned c && nat_eq k k) (s.keys k) (and_from (l.is_retuned c) (nat_eq k k) (h c k v refl is) (eq-eqb k k refl)), refl)
+told_begun : (l : Live) (part : ℕ → Bool) (s : Told) (m : Music) (t : ℕ) (msg : Msg) → ((c k v : ℕ) → msg ≡ NoteOn c k (suc v) → part c ≡ true → l.is_retuned c ≡ true) → BeginsA (IsToldNote part (live_next l s (Plays msg))) m t (Plays msg)
+told_begun l part s m t (NoteOn c k (suc v)) h = ((λ on is. (or_left (l.is_retuned c && nat_eq k k) (s.keys k) (and_from (l.is_retuned c) (nat_eq k k) (h c k v refl is) (eq-eqb k k refl)), refl)), tt)
 told_begun l part s m t (NoteOn c k zero) h = tt
 told_begun l part s m t (NoteOff c k v) h = tt
 told_begun l part s m t (KeyPressure c k v) h = tt
@@ -124,16 +125,17 @@ none_told : (part : ℕ → Bool) (s : Told) (ns : List Note) → AllByRecursion
 none_told part s [] h = tt
 none_told part s (n ∷ ns) h = ((λ on is. absurd (both_ways (sounds n) h.0 on)), none_told part s ns h.1)
 
-pub told_advance : (l : Live) (part : ℕ → Bool) (s : Told) (m : Music) (t : ℕ) (d : Doing) → ((msg : Msg) (c k v : ℕ) → d ≡ Plays msg → msg ≡ NoteOn c k (suc v) → part c ≡ true → l.is_retuned c ≡ true)
+pub told_advance : NotesFade → (l : Live) (part : ℕ → Bool) (s : Told) (m : Music) (t : ℕ) (d : Doing) → ((msg : Msg) (c k v : ℕ) → d ≡ Plays msg → msg ≡ NoteOn c k (suc v) → part c ≡ true → l.is_retuned c ≡ true)
     → AllByRecursion (IsToldNote part s) m.notes → AllByRecursion (IsToldNote part (live_next l s d)) (advance t d m).notes
-told_advance l part s m t (Plays msg) f h =
-    all_played (IsToldNote part (live_next l s (Plays msg))) (told_fades part (live_next l s (Plays msg))) m t msg (told_stays l part s msg m.notes h) (told_begun l part s m t msg (λ c k v. f msg c k v refl))
-told_advance l part s m t Resets f h = none_told part (live_next l s Resets) (map (ending t) m.notes) (all_silent t m.notes)
-told_advance l part s m t (Tunes r) f h = h
-told_advance l part s m t Nothing f h = h
+told_advance fade l part s m t (Plays msg) f h =
+    all_advanced fade (IsToldNote part (live_next l s (Plays msg))) (told_fades part (live_next l s (Plays msg))) m t (Plays msg) (told_stays l part s msg m.notes h) (told_begun l part s m t msg (λ c k v. f msg c k v refl))
+told_advance fade l part s m t Resets f h = none_told part (live_next l s Resets) (map (ending t) m.notes) (all_silent t m.notes)
+told_advance fade l part s m t (Tunes r) f h = h
+told_advance fade l part s m t Nothing f h = h
 
 -- ---- such a note's pitch
 pub record Tells (scaling : Scaling) (o : Options) (table : Targets) : Type 0 where
+  pub laws : PitchLaws
   pub route : o.route ≡ ByLive
   pub bounds : IsTable scaling table
   pub few_terms : AreFewTerms scaling
@@ -151,7 +153,7 @@ heard_live scaling o table l m u s n g z told h key begun =
     played_alone (made m u) n l.setup.program z (h.selected u (told.selected begun)) ∙ ap (λ w. ((in_steps n.key w +ℤ fine c) +ℤ coarse c) +ℤ bent c) value in
     let again : ((pos (195312500 * v) +ℤ fine c) +ℤ coarse c) +ℤ bent c ≡ pos (195312500 * v) +ℤ x = regroup (pos (195312500 * v)) (fine c) (coarse c) (bent c) in
     let near : Within (added p.pitch (exactly x)) (played (made m u) n) (97656250 + 32000000) =
-    heard_within p.pitch (terms_at scaling n.key n.onset) (ratios_at_key scaling n.key n.onset) h.bounds v x (played (made m u) n) p.bounds (g.few_terms n.key n.onset (omega (arith, h.low))) h.target (sum ∙ again) in
+    heard_within g.laws p.pitch (terms_at scaling n.key n.onset) (ratios_at_key scaling n.key n.onset) h.bounds v x (played (made m u) n) p.bounds (g.few_terms n.key n.onset (omega (arith, h.low))) h.target (sum ∙ again) in
     let P : Route → Type 0 = λ r. Within (added p.pitch (exactly ((fine c +ℤ coarse c) +ℤ moved r o.range c))) (played (made m u) n) (half_step r o.range + 32000000) in
     let Q : Option Pitch → Type 0 = λ q. IsWithin (heard_if o c q) (played (made m u) n) (bound o) in
     subst Q (sym p.is) (subst P (sym g.route) near)

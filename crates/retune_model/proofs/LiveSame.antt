@@ -10,8 +10,8 @@ use Rattle.midi_model.specs.Notes.{Note, sounds, cut_off}
 use Rattle.midi_model.specs.Music.{Music, quiet, begun, act, settle_note, advance, step, play}
 use Rattle.midi_model.specs.Tuning.{Tuning, untuned, tuning_after}
 use Rattle.midi_model.specs.Receiver.{Receiver, start, receive, after}
-use Rattle.midi_model.proofs.Steady.{Steady, steady-quiet, steady-step}
-use Rattle.midi_model.proofs.Begun.{AllNotes}
+use Rattle.retune_model.proofs.Steady.{Steady, steady-quiet, steady-step}
+use Rattle.retune_model.proofs.Begun.{AllNotes}
 use Rattle.retune_model.specs.Table.{Scaling}
 use Rattle.retune_model.specs.Options.{Options, ByLive, bends_notes, has_drums, keeps_drums, is_drum_message, is_retuned}
 use Rattle.retune_model.specs.PlaysTheSame.{Pairwise, until, at_tick, retuned_notes, key_of, bend_target_if, output_key, IsSameNote, HasSameNotes, SoundsTheSame, HasSameSound, Beginning, last_note, beginning, beginnings_from, BeginsAlike, BeginsTheSame, PlaysTheSameMusic}
@@ -21,6 +21,7 @@ use Rattle.retune_model.specs.Routes.{translated, Live, Told, nothing_told, IsHa
 use Rattle.retune_model.specs.Plain.{is_plain, ArePlain, IsTold, told_after, Reads}
 use Rattle.retune_model.specs.Dump.{told_value, live_setup, told_live}
 use Rattle.retune_model.specs.Dumpable.{IsLivable}
+use Rattle.retune_model.proofs.Laws.{Laws}
 use Rattle.retune_model.proofs.SameMusic.{Ready, live_keeps, unselected-quiet}
 use Rattle.retune_model.proofs.Tunings.{made, groups_received, received}
 use Rattle.retune_model.proofs.Told.{told_message, told_next, told_run}
@@ -93,8 +94,8 @@ harmless scaling o table change es d = record {
 reads : (scaling : Scaling) (o : Options) (table : Targets) (change : ℕ → List ℕ) (es : List MidiEvent) → IsLivable scaling o table change es → Reads (live_setup o change es) (told_value table)
 reads scaling o table change es d = record { none = refl; change = d.changes.reads }
 
-tells : (scaling : Scaling) (o : Options) (table : Targets) (change : ℕ → List ℕ) (es : List MidiEvent) → IsLivable scaling o table change es → Tells scaling o table
-tells scaling o table change es d = record { route = d.route; bounds = d.bounds; few_terms = d.few_terms }
+tells : (laws : Laws) (scaling : Scaling) (o : Options) (table : Targets) (change : ℕ → List ℕ) (es : List MidiEvent) → IsLivable scaling o table change es → Tells scaling o table
+tells laws scaling o table change es d = record { laws = laws.pitch; route = d.route; bounds = d.bounds; few_terms = d.few_terms }
 
 -- ---- what is kept by each event: notes that have targets, notes that were told
 record IsKept (o : Options) (table : Targets) (change : ℕ → List ℕ) (source : List MidiEvent) (s : Told) (m : Music) : Type 0 where
@@ -117,18 +118,18 @@ part_note o source (Says x) shows msg c k v e f is =
 part_note o source (SysexOf lead bs) shows msg c k v e f is = absurd (sysex_no_play lead bs msg e)
 part_note o source (MetaOf kind bs) shows msg c k v e f is = absurd cc
 
-kept_step : (scaling : Scaling) (o : Options) (table : Targets) (change : ℕ → List ℕ) (source : List MidiEvent) (s : Told) (m : Music) (e : MidiEvent) → IsLivable scaling o table change source → fault_at o table m e ≡ None
+kept_step : (laws : Laws) (scaling : Scaling) (o : Options) (table : Targets) (change : ℕ → List ℕ) (source : List MidiEvent) (s : Told) (m : Music) (e : MidiEvent) → IsLivable scaling o table change source → fault_at o table m e ≡ None
     → IsKnown o source e → IsKept o table change source s m → IsKept o table change source (live_next (live_setup o change source) s (doing e.what)) (step m e)
-kept_step scaling o table change source s m e d f known k = record {
+kept_step laws scaling o table change source s m e d f known k = record {
   zones = no_zones_step o table m e f k.zones;
-  tellable = tellable_step o table change source m e d.route d.one_table f known k.tellable;
-  told = told_advance (live_setup o change source) (is_retuned (keeps_drums o source)) s m e.tick (doing e.what) (part_note o source e.what known.1) k.told;
+  tellable = tellable_step laws.fade o table change source m e d.route d.one_table f known k.tellable;
+  told = told_advance laws.fade (live_setup o change source) (is_retuned (keeps_drums o source)) s m e.tick (doing e.what) (part_note o source e.what known.1) k.told;
 }
 
-kept_play : (scaling : Scaling) (o : Options) (table : Targets) (change : ℕ → List ℕ) (source : List MidiEvent) (s : Told) (m : Music) (es : List MidiEvent) → IsLivable scaling o table change source → IsFaultless o table m es
+kept_play : (laws : Laws) (scaling : Scaling) (o : Options) (table : Targets) (change : ℕ → List ℕ) (source : List MidiEvent) (s : Told) (m : Music) (es : List MidiEvent) → IsLivable scaling o table change source → IsFaultless o table m es
     → AllByRecursion (IsKnown o source) es → IsKept o table change source s m → IsKept o table change source (told_after (live_setup o change source) s es) (play m es)
-kept_play scaling o table change source s m [] d f known k = k
-kept_play scaling o table change source s m (e ∷ es) d f known k = kept_play scaling o table change source (live_next (live_setup o change source) s (doing e.what)) (step m e) es d f.1 known.1 (kept_step scaling o table change source s m e d f.0 known.0 k)
+kept_play laws scaling o table change source s m [] d f known k = k
+kept_play laws scaling o table change source s m (e ∷ es) d f known k = kept_play laws scaling o table change source (live_next (live_setup o change source) s (doing e.what)) (step m e) es d f.1 known.1 (kept_step laws scaling o table change source s m e d f.0 known.0 k)
 
 at_first : (o : Options) (table : Targets) (change : ℕ → List ℕ) (source : List MidiEvent) → IsKept o table change source nothing_told quiet
 at_first o table change source = record { zones = refl; tellable = tt; told = tt }
@@ -140,17 +141,17 @@ record IsFront (o : Options) (table : Targets) (change : ℕ → List ℕ) (sour
   output : after (live_output (live_setup o change source) xs) ≡ made (play quiet xs) tuning
   is_told : IsTold (live_setup o change source) (told_value table) (told_after (live_setup o change source) nothing_told xs) tuning
 
-front : (scaling : Scaling) (o : Options) (table : Targets) (change : ℕ → List ℕ) (es xs ys : List MidiEvent) → IsLivable scaling o table change es → es ≡ xs ++ ys → IsFront o table change es xs
-front scaling o table change es xs ys d e =
+front : (laws : Laws) (scaling : Scaling) (o : Options) (table : Targets) (change : ℕ → List ℕ) (es xs ys : List MidiEvent) → IsLivable scaling o table change es → es ≡ xs ++ ys → IsFront o table change es xs
+front laws scaling o table change es xs ys d e =
     let l : Live = live_setup o change es in
     let h : IsHarmlessLive l = harmless scaling o table change es d in
     let clean : IsFaultless o table quiet xs = faultless_front o table quiet xs ys (subst (λ z. IsFaultless o table quiet z) e d.faultless) in
     let plain : ArePlain (is_part o) quiet xs = plain_front (is_part o) quiet xs ys (subst (λ z. ArePlain (is_part o) quiet z) e (all_plain o table quiet es d.valid d.faultless)) in
     let all : AllByRecursion (IsKnown o es) xs = all_front (IsKnown o es) xs ys (subst (λ z. AllByRecursion (IsKnown o es) z) e (known o es d.valid)) in
     record {
-      kept = kept_play scaling o table change es nothing_told quiet xs d clean all (at_first o table change es);
+      kept = kept_play laws scaling o table change es nothing_told quiet xs d clean all (at_first o table change es);
       tuning = tuning_run (live_block l) (λ s x. live_next l s (doing x.what)) nothing_told quiet untuned xs;
-      output = received (live_block l) (λ s x. live_next l s (doing x.what)) (λ s m. Ready s.begun m) (live_keeps l h) nothing_told start xs steady-quiet (unselected-quiet quiet refl);
+      output = received (live_block l) (λ s x. live_next l s (doing x.what)) (λ s m. Ready s.begun m) (live_keeps l h) nothing_told start xs (steady-quiet laws.settled) (unselected-quiet quiet refl);
       is_told = told_run l (told_value table) nothing_told quiet xs untuned h.setup (reads scaling o table change es d) (setup_parts o (change 0) es) plain (record { values = λ k t. absurd cc; selected = λ t. absurd cc; wide = refl });
     }
 
@@ -165,10 +166,10 @@ same_note o table n route = record {
   ended = refl;
 }
 
-notes_at : (scaling : Scaling) (o : Options) (table : Targets) (change : ℕ → List ℕ) (es xs ys : List MidiEvent) (part : ℕ → Bool) → IsLivable scaling o table change es → es ≡ xs ++ ys
+notes_at : (laws : Laws) (scaling : Scaling) (o : Options) (table : Targets) (change : ℕ → List ℕ) (es xs ys : List MidiEvent) (part : ℕ → Bool) → IsLivable scaling o table change es → es ≡ xs ++ ys
     → Pairwise (IsSameNote (output_key o table)) (retuned_notes part (after xs)) (retuned_notes part (after (live_output (live_setup o change es) xs)))
-notes_at scaling o table change es xs ys part d e =
-    let f = front scaling o table change es xs ys d e in
+notes_at laws scaling o table change es xs ys part d e =
+    let f = front laws scaling o table change es xs ys d e in
     let P : Receiver → Type 0 = λ r. Pairwise (IsSameNote (output_key o table)) (retuned_notes part r) (retuned_notes part (after (live_output (live_setup o change es) xs))) in
     let Q : Receiver → Type 0 = λ r. Pairwise (IsSameNote (output_key o table)) (retuned_notes part (made (play quiet xs) (after xs).tuning)) (retuned_notes part r) in
     subst P (sym (source_music xs)) (subst Q (sym f.output)
@@ -195,11 +196,11 @@ sound_notes scaling o table change source s m w u [] g z told h k = tt
 sound_notes scaling o table change source s m w u (n ∷ ns) g z told h k =
     (sound_note scaling o table change source s m w u g z told n h.0 k.0, sound_notes scaling o table change source s m w u ns g z told h.1 k.1)
 
-sound_at : (scaling : Scaling) (o : Options) (table : Targets) (change : ℕ → List ℕ) (es xs ys : List MidiEvent) → IsLivable scaling o table change es → es ≡ xs ++ ys
+sound_at : (laws : Laws) (scaling : Scaling) (o : Options) (table : Targets) (change : ℕ → List ℕ) (es xs ys : List MidiEvent) → IsLivable scaling o table change es → es ≡ xs ++ ys
     → Pairwise (λ a b. sounds a ≡ true → SoundsTheSame scaling o (after xs) (after (live_output (live_setup o change es) xs)) a b)
     (retuned_notes (is_retuned (keeps_drums o es)) (after xs)) (retuned_notes (is_retuned (keeps_drums o es)) (after (live_output (live_setup o change es) xs)))
-sound_at scaling o table change es xs ys d e =
-    let f = front scaling o table change es xs ys d e in
+sound_at laws scaling o table change es xs ys d e =
+    let f = front laws scaling o table change es xs ys d e in
     let part : ℕ → Bool = is_retuned (keeps_drums o es) in
     let m : Music = play quiet xs in
     let w : Tuning = (after xs).tuning in
@@ -210,24 +211,24 @@ sound_at scaling o table change es xs ys d e =
     subst P (sym (source_music xs)) (subst Q (sym f.output)
     (pairwise_same (R (made m w) (made m f.tuning)) (filter (λ n. part n.channel) m.notes)
     (of_notes part S m.notes
-    (sound_notes scaling o table change es (told_after (live_setup o change es) nothing_told xs) m w f.tuning m.notes (tells scaling o table change es d) f.kept.zones f.is_told f.kept.tellable f.kept.told))))
+    (sound_notes scaling o table change es (told_after (live_setup o change es) nothing_told xs) m w f.tuning m.notes (tells laws scaling o table change es d) f.kept.zones f.is_told f.kept.tellable f.kept.told))))
 
-same_notes : (scaling : Scaling) (o : Options) (table : Targets) (change : ℕ → List ℕ) (es : List MidiEvent) → IsLivable scaling o table change es → HasSameNotes (output_key o table) (is_retuned (keeps_drums o es)) es (told_live o change es)
-same_notes scaling o table change es d t =
+same_notes : (laws : Laws) (scaling : Scaling) (o : Options) (table : Targets) (change : ℕ → List ℕ) (es : List MidiEvent) → IsLivable scaling o table change es → HasSameNotes (output_key o table) (is_retuned (keeps_drums o es)) es (told_live o change es)
+same_notes laws scaling o table change es d t =
     let c = split t 0 es d.in_order in
     let part : ℕ → Bool = is_retuned (keeps_drums o es) in
     let P : List MidiEvent → Type 0 = λ x. Pairwise (IsSameNote (output_key o table)) (retuned_notes part (after x)) (retuned_notes part (at_tick t (told_live o change es))) in
     let Q : List MidiEvent → Type 0 = λ y. Pairwise (IsSameNote (output_key o table)) (retuned_notes part (after c.early)) (retuned_notes part (after y)) in
-    subst P (sym (until_source t es c)) (subst Q (sym (until_output t (live_setup o change es) es c)) (notes_at scaling o table change es c.early c.late part d c.is))
+    subst P (sym (until_source t es c)) (subst Q (sym (until_output t (live_setup o change es) es c)) (notes_at laws scaling o table change es c.early c.late part d c.is))
 
-same_sounds : (scaling : Scaling) (o : Options) (table : Targets) (change : ℕ → List ℕ) (es : List MidiEvent) → IsLivable scaling o table change es → HasSameSound scaling o (is_retuned (keeps_drums o es)) es (told_live o change es)
-same_sounds scaling o table change es d t =
+same_sounds : (laws : Laws) (scaling : Scaling) (o : Options) (table : Targets) (change : ℕ → List ℕ) (es : List MidiEvent) → IsLivable scaling o table change es → HasSameSound scaling o (is_retuned (keeps_drums o es)) es (told_live o change es)
+same_sounds laws scaling o table change es d t =
     let c = split t 0 es d.in_order in
     let part : ℕ → Bool = is_retuned (keeps_drums o es) in
     let R : List MidiEvent → List MidiEvent → Type 0 = λ x y. Pairwise (λ a b. sounds a ≡ true → SoundsTheSame scaling o (after x) (after y) a b) (retuned_notes part (after x)) (retuned_notes part (after y)) in
     let P : List MidiEvent → Type 0 = λ x. R x (until t (told_live o change es)) in
     let Q : List MidiEvent → Type 0 = λ y. R c.early y in
-    subst P (sym (until_source t es c)) (subst Q (sym (until_output t (live_setup o change es) es c)) (sound_at scaling o table change es c.early c.late d c.is))
+    subst P (sym (until_source t es c)) (subst Q (sym (until_output t (live_setup o change es) es c)) (sound_at laws scaling o table change es c.early c.late d c.is))
 
 -- ---- right from its beginning
 abbrev IsPlain : (ℕ → Bool) → Note → Type 0
@@ -248,13 +249,13 @@ last_alike scaling o table change source s m w u track (n ∷ []) g z told h k l
 last_alike scaling o table change source s m w u track (n ∷ x ∷ ns) g z told h k last = last_alike scaling o table change source s m w u track (x ∷ ns) g z told h.1 k.1 last
 
 -- one event: now is the music after it
-one_alike : (scaling : Scaling) (o : Options) (table : Targets) (change : ℕ → List ℕ) (source : List MidiEvent) (s : Told) (m : Music) (w u : Tuning) (t track : ℕ) (what : MidiWhat)
+one_alike : (laws : Laws) (scaling : Scaling) (o : Options) (table : Targets) (change : ℕ → List ℕ) (source : List MidiEvent) (s : Told) (m : Music) (w u : Tuning) (t track : ℕ) (what : MidiWhat)
     → IsLivable scaling o table change source → is_plain (is_part o) m (doing what) ≡ true → IsTold (live_setup o change source) (told_value table) s u
     → IsKept o table change source (live_next (live_setup o change source) s (doing what)) (step m (event t track what))
     → Pairwise (BeginsAlike scaling o)
     (beginning (is_retuned (keeps_drums o source)) (receive (made m w) (event t track what)) (event t track what))
     (beginning (is_retuned (keeps_drums o source)) (receive (made m (tuned_by (live_before (live_setup o change source) s (event t track what) (doing what)) u)) (event t track what)) (event t track what))
-one_alike scaling o table change source s m w u t track (Says (NoteOn c k (suc v))) d plain told kept = pick (is_retuned (keeps_drums o source) c) refl
+one_alike laws scaling o table change source s m w u t track (Says (NoteOn c k (suc v))) d plain told kept = pick (is_retuned (keeps_drums o source) c) refl
   where
     now : Music
     now = step m (event t track (Says (NoteOn c k (suc v))))
@@ -265,20 +266,20 @@ one_alike scaling o table change source s m w u t track (Says (NoteOn c k (suc v
     pick : (x : Bool) → is_retuned (keeps_drums o source) c ≡ x → Pairwise (BeginsAlike scaling o)
         (cond x (last_note (made now (tuning_after m (Plays (NoteOn c k (suc v))) w)) track now.notes) [])
         (cond x (last_note (made now heard_tuning) track now.notes) [])
-    pick true h = last_alike scaling o table change source (live_next (live_setup o change source) s (Plays (NoteOn c k (suc v)))) now (tuning_after m (Plays (NoteOn c k (suc v))) w) heard_tuning track now.notes (tells scaling o table change source d)
+    pick true h = last_alike scaling o table change source (live_next (live_setup o change source) s (Plays (NoteOn c k (suc v)))) now (tuning_after m (Plays (NoteOn c k (suc v))) w) heard_tuning track now.notes (tells laws scaling o table change source d)
         kept.zones
         (told_message (live_setup o change source) (told_value table) s m (event t track (Says (NoteOn c k (suc v)))) (NoteOn c k (suc v)) u (harmless scaling o table change source d).setup (reads scaling o table change source d) (setup_parts o (change 0) source) plain told)
         kept.tellable kept.told (last_sounds (is_retuned (keeps_drums o source)) m t c k v h)
     pick false h = tt
-one_alike scaling o table change source s m w u t track (Says (NoteOn c k zero)) d plain told kept = tt
-one_alike scaling o table change source s m w u t track (Says (NoteOff c k v)) d plain told kept = tt
-one_alike scaling o table change source s m w u t track (Says (KeyPressure c k v)) d plain told kept = tt
-one_alike scaling o table change source s m w u t track (Says (Control c n v)) d plain told kept = tt
-one_alike scaling o table change source s m w u t track (Says (Program c p)) d plain told kept = tt
-one_alike scaling o table change source s m w u t track (Says (Pressure c v)) d plain told kept = tt
-one_alike scaling o table change source s m w u t track (Says (Bend c v)) d plain told kept = tt
-one_alike scaling o table change source s m w u t track (SysexOf lead bs) d plain told kept = tt
-one_alike scaling o table change source s m w u t track (MetaOf kind bs) d plain told kept = tt
+one_alike laws scaling o table change source s m w u t track (Says (NoteOn c k zero)) d plain told kept = tt
+one_alike laws scaling o table change source s m w u t track (Says (NoteOff c k v)) d plain told kept = tt
+one_alike laws scaling o table change source s m w u t track (Says (KeyPressure c k v)) d plain told kept = tt
+one_alike laws scaling o table change source s m w u t track (Says (Control c n v)) d plain told kept = tt
+one_alike laws scaling o table change source s m w u t track (Says (Program c p)) d plain told kept = tt
+one_alike laws scaling o table change source s m w u t track (Says (Pressure c v)) d plain told kept = tt
+one_alike laws scaling o table change source s m w u t track (Says (Bend c v)) d plain told kept = tt
+one_alike laws scaling o table change source s m w u t track (SysexOf lead bs) d plain told kept = tt
+one_alike laws scaling o table change source s m w u t track (MetaOf kind bs) d plain told kept = tt
 
 block_beginnings : (part : ℕ → Bool) (l : Live) (s : Told) (m : Music) (u : Tuning) (e : MidiEvent) (rest : List MidiEvent) → Steady m
     → AreSilent m (live_before l s e (doing e.what)) → AreSilent (step m e) (dump_behind l.setup s.begun e (doing e.what))
@@ -295,12 +296,12 @@ block_beginnings part l s m u e rest st before behind =
     ∙ ap (λ x. beginning part (receive r e) e ++ x)
     (no_beginnings part (receive r e) hs rest ∙ ap (λ x. beginnings_from part x rest) (groups_received (receive r e) hs (steady-step m e st) behind))
 
-begin_run : (scaling : Scaling) (o : Options) (table : Targets) (change : ℕ → List ℕ) (source : List MidiEvent) (s : Told) (m : Music) (w u : Tuning) (es : List MidiEvent)
+begin_run : (laws : Laws) (scaling : Scaling) (o : Options) (table : Targets) (change : ℕ → List ℕ) (source : List MidiEvent) (s : Told) (m : Music) (w u : Tuning) (es : List MidiEvent)
     → IsLivable scaling o table change source → Steady m → Ready s.begun m → IsTold (live_setup o change source) (told_value table) s u → IsKept o table change source s m
     → IsFaultless o table m es → ArePlain (is_part o) m es → AllByRecursion (IsKnown o source) es
     → Pairwise (BeginsAlike scaling o) (beginnings_from (is_retuned (keeps_drums o source)) (made m w) es) (beginnings_from (is_retuned (keeps_drums o source)) (made m u) (blocks (live_setup o change source) s es))
-begin_run scaling o table change source s m w u [] d st ready told kept f plain all = tt
-begin_run scaling o table change source s m w u (e ∷ es) d st ready told kept f plain all =
+begin_run laws scaling o table change source s m w u [] d st ready told kept f plain all = tt
+begin_run laws scaling o table change source s m w u (e ∷ es) d st ready told kept f plain all =
     let l : Live = live_setup o change source in
     let part : ℕ → Bool = is_retuned (keeps_drums o source) in
     let h : IsHarmlessLive l = harmless scaling o table change source d in
@@ -309,22 +310,22 @@ begin_run scaling o table change source s m w u (e ∷ es) d st ready told kept 
     let rest : List MidiEvent = blocks l s2 es in
     let v : Tuning = tuned_by (live_before l s e (doing e.what)) u in
     let next : Tuning = tuned_by (dump_behind l.setup s.begun e (doing e.what)) (tuning_after m (doing e.what) v) in
-    let kept_now : IsKept o table change source s2 (step m e) = kept_step scaling o table change source s m e d f.0 all.0 kept in
+    let kept_now : IsKept o table change source s2 (step m e) = kept_step laws scaling o table change source s m e d f.0 all.0 kept in
     let P : List Beginning → Type 0 = λ x. Pairwise (BeginsAlike scaling o) (beginnings_from part (made m w) (e ∷ es)) x in
     subst P (sym (block_beginnings part l s m u e rest st k.before k.behind))
     (pairwise_append (BeginsAlike scaling o) (beginning part (receive (made m w) e) e) (beginnings_from part (receive (made m w) e) es) (beginning part (receive (made m v) e) e) (beginnings_from part (made (step m e) next) rest)
-    (one_alike scaling o table change source s m w u e.tick e.track e.what d plain.0 told kept_now)
-    (begin_run scaling o table change source s2 (step m e) (tuning_after m (doing e.what) w) next es d (steady-step m e st) k.ready
+    (one_alike laws scaling o table change source s m w u e.tick e.track e.what d plain.0 told kept_now)
+    (begin_run laws scaling o table change source s2 (step m e) (tuning_after m (doing e.what) w) next es d (steady-step m e st) k.ready
     (told_next l (told_value table) s m e (doing e.what) u h.setup (reads scaling o table change source d) (setup_parts o (change 0) source) plain.0 told) kept_now f.1 plain.1 all.1))
 
-same_beginnings : (scaling : Scaling) (o : Options) (table : Targets) (change : ℕ → List ℕ) (es : List MidiEvent) → IsLivable scaling o table change es → BeginsTheSame scaling o (is_retuned (keeps_drums o es)) es (told_live o change es)
-same_beginnings scaling o table change es d =
-    begin_run scaling o table change es nothing_told quiet untuned untuned es d steady-quiet (unselected-quiet quiet refl)
+same_beginnings : (laws : Laws) (scaling : Scaling) (o : Options) (table : Targets) (change : ℕ → List ℕ) (es : List MidiEvent) → IsLivable scaling o table change es → BeginsTheSame scaling o (is_retuned (keeps_drums o es)) es (told_live o change es)
+same_beginnings laws scaling o table change es d =
+    begin_run laws scaling o table change es nothing_told quiet untuned untuned es d (steady-quiet laws.settled) (unselected-quiet quiet refl)
     (record { values = λ k t. absurd cc; selected = λ t. absurd cc; wide = refl }) (at_first o table change es) d.faultless (all_plain o table quiet es d.valid d.faultless) (known o es d.valid)
 
-pub live_plays_the_same : (scaling : Scaling) (o : Options) (table : Targets) (change : ℕ → List ℕ) (es : List MidiEvent) → IsLivable scaling o table change es → PlaysTheSameMusic scaling o table es (told_live o change es)
-live_plays_the_same scaling o table change es d = record {
-  notes = same_notes scaling o table change es d;
-  sound = same_sounds scaling o table change es d;
-  beginnings = same_beginnings scaling o table change es d;
+pub live_plays_the_same : (laws : Laws) (scaling : Scaling) (o : Options) (table : Targets) (change : ℕ → List ℕ) (es : List MidiEvent) → IsLivable scaling o table change es → PlaysTheSameMusic scaling o table es (told_live o change es)
+live_plays_the_same laws scaling o table change es d = record {
+  notes = same_notes laws scaling o table change es d;
+  sound = same_sounds laws scaling o table change es d;
+  beginnings = same_beginnings laws scaling o table change es d;
 }

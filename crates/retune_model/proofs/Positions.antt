@@ -1,9 +1,9 @@
 -- Position k of a list is the moment after its first k events.
-use Rattle.std.proofs.Common.{◌≡◌, ◌≤◌, ◌<◌, ◌+◌, ℕ, zero, suc, List, [], ◌∷◌, Bool, true, false, cond, refl, ap, ◌∙◌, map, take, arith, nat_le}
+use Rattle.std.proofs.Common.{◌≡◌, ◌≤◌, ◌+◌, ℕ, zero, suc, List, [], ◌∷◌, cond, refl, ap, ◌∙◌, map, take, arith, nat_le}
 use Rattle.std.specs.List.{filter}
 use Rattle.std.proofs.lemmas.Bool.{le-leb, lt-leb}
 use Rattle.mt_base.specs.Midi.{MidiEvent}
-use Rattle.midi_model.specs.Music.{Music, quiet, play}
+use Rattle.midi_model.specs.Music.{quiet, play}
 use Rattle.retune_model.specs.Numbered.{Numbered, numbered_from, numbered, events_to, music_at}
 
 none_yet : (k a : ℕ) (es : List MidiEvent) → k ≤ a → events_to k (numbered_from a es) ≡ []

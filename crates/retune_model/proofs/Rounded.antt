@@ -4,8 +4,8 @@ use Rattle.std.specs.Int.{int_div_euclid}
 use Rattle.std.proofs.lemmas.Int.{ints}
 use Rattle.std.proofs.Math.Nat.{mod-add-div, mod-lt}
 use Rattle.mt_base.specs.Pitch.{Pitch, exactly, added, Within}
-use Rattle.mt_base.proofs.Pitches.{least_of_sum, most_of_sum, least_of_exact, most_of_exact, least_of_less, most_of_more}
 use Rattle.retune_model.specs.Table.{Bounds, AreBounds, up_to, nearest_tuning, tuning_target}
+use Rattle.retune_model.proofs.Laws.{PitchLaws}
 
 record Near (z : ℤ) (v : ℕ) : Type 0 where
   low : pos (195312500 * v) ≤ℤ z
@@ -39,14 +39,14 @@ rounded b v e =
     record { low = l; high = omega (arith, ints, h) }
 
 -- 97,656,250 grains are half a step, 32,000,000 a thousandth of a cent
-pub heard_within : (p : Pitch) (terms : ℕ) (ratios : List (ℕ × ℕ)) (b : Bounds) (v : ℕ) (x n : ℤ) → AreBounds p terms ratios b → terms ≤ 1700 → tuning_target b ≡ Some v → n ≡ (pos (195312500 * v) +ℤ x)
+pub heard_within : (laws : PitchLaws) (p : Pitch) (terms : ℕ) (ratios : List (ℕ × ℕ)) (b : Bounds) (v : ℕ) (x n : ℤ) → AreBounds p terms ratios b → terms ≤ 1700 → tuning_target b ≡ Some v → n ≡ (pos (195312500 * v) +ℤ x)
     → Within (added p (exactly x)) n (97656250 + 32000000)
-heard_within p terms ratios b v x n a few e same =
+heard_within laws p terms ratios b v x n a few e same =
     let r = rounded b v e in
     let low = r.low in
     let high = r.high in
     let narrow = a.narrow in
     record {
-      least = least_of_less (added p (exactly x)) (b.lo +ℤ x) (n -ℤ pos (97656250 + 32000000)) (omega (arith, ints, same, low)) (least_of_sum p (exactly x) b.lo x a.least (least_of_exact x));
-      most = most_of_more (added p (exactly x)) (b.hi +ℤ x) (n +ℤ pos (97656250 + 32000000)) (omega (arith, ints, same, high, narrow, few)) (most_of_sum p (exactly x) b.hi x a.most (most_of_exact x));
+      least = laws.least_of_less (added p (exactly x)) (b.lo +ℤ x) (n -ℤ pos (97656250 + 32000000)) (omega (arith, ints, same, low)) (laws.least_of_sum p (exactly x) b.lo x a.least (laws.least_of_exact x));
+      most = laws.most_of_more (added p (exactly x)) (b.hi +ℤ x) (n +ℤ pos (97656250 + 32000000)) (omega (arith, ints, same, high, narrow, few)) (laws.most_of_sum p (exactly x) b.hi x a.most (laws.most_of_exact x));
     }

@@ -3,8 +3,9 @@ use Rattle.std.proofs.Common.{◌≡◌, List, [], ◌∷◌, ◌++◌, refl, ap
 use Rattle.midi_model.specs.Music.{Music, quiet, step, play}
 use Rattle.midi_model.specs.Receiver.{start, after}
 use Rattle.retune_model.specs.Blocks.{all_events, AreSilent, Block, written, output, sources, Fits}
-use Rattle.midi_model.proofs.Same.{play-append, music_all}
-use Rattle.midi_model.proofs.Steady.{Steady, steady-quiet, steady-step, steady-play}
+use Rattle.midi_model.specs.MusicLaws.{EventsSettle}
+use Rattle.retune_model.proofs.Steady.{play-append, music_all}
+use Rattle.retune_model.proofs.Steady.{Steady, steady-quiet, steady-step, steady-play}
 use Rattle.retune_model.proofs.Silent.{groups_silent}
 
 -- one block
@@ -31,19 +32,19 @@ fits-back m [] ys f = f
 fits-back m (x ∷ xs) ys f = fits-back (step m x.event) xs ys f.2
 
 -- after each source event
-pub same_each : (xs ys : List Block) → Fits quiet (xs ++ ys) → (after (output xs)).music ≡ (after (sources xs)).music
-same_each xs ys f =
-    music_all start (output xs) ∙ same_output quiet xs steady-quiet (fits-front quiet xs ys f) ∙ sym (music_all start (sources xs))
+pub same_each : (settled : EventsSettle) (xs ys : List Block) → Fits quiet (xs ++ ys) → (after (output xs)).music ≡ (after (sources xs)).music
+same_each settled xs ys f =
+    music_all start (output xs) ∙ same_output quiet xs (steady-quiet settled) (fits-front quiet xs ys f) ∙ sym (music_all start (sources xs))
 
 -- and within its block, right after the source event itself
-pub same_within : (xs : List Block) (b : Block) (ys : List Block) → Fits quiet (xs ++ b ∷ ys)
+pub same_within : (settled : EventsSettle) (xs : List Block) (b : Block) (ys : List Block) → Fits quiet (xs ++ b ∷ ys)
     → (after (output xs ++ (all_events b.before ++ b.event ∷ []))).music ≡ (after (sources xs ++ b.event ∷ [])).music
-same_within xs b ys f =
+same_within settled xs b ys f =
     let here : Music = play quiet (sources xs) in
     music_all start (output xs ++ (all_events b.before ++ b.event ∷ []))
     ∙ play-append quiet (output xs) (all_events b.before ++ b.event ∷ [])
-    ∙ ap (λ y. play y (all_events b.before ++ b.event ∷ [])) (same_output quiet xs steady-quiet (fits-front quiet xs (b ∷ ys) f))
+    ∙ ap (λ y. play y (all_events b.before ++ b.event ∷ [])) (same_output quiet xs (steady-quiet settled) (fits-front quiet xs (b ∷ ys) f))
     ∙ play-append here (all_events b.before) (b.event ∷ [])
-    ∙ ap (λ y. play y (b.event ∷ [])) (groups_silent here b.before (steady-play quiet (sources xs) steady-quiet) (fits-back quiet xs (b ∷ ys) f).0)
+    ∙ ap (λ y. play y (b.event ∷ [])) (groups_silent here b.before (steady-play quiet (sources xs) (steady-quiet settled)) (fits-back quiet xs (b ∷ ys) f).0)
     ∙ sym (play-append quiet (sources xs) (b.event ∷ []))
     ∙ sym (music_all start (sources xs ++ b.event ∷ []))

@@ -10,8 +10,9 @@ use Rattle.midi_model.specs.Music.{Music, quiet, channel_at, advance, step, play
 use Rattle.midi_model.specs.Receiver.{start, after}
 use Rattle.retune_model.specs.Blocks.{Group, Sends, AreSilent, Block, written}
 use Rattle.retune_model.specs.Routes.{translated, Setup, sends, selects, setup_at, dump_before, dump_behind, dump_next, dump_block, dump_output, Live, Told, nothing_told, change_due, live_before, live_next, live_block, live_output, IsHarmless, IsHarmlessLive}
-use Rattle.midi_model.proofs.Same.{play-append, music_all}
-use Rattle.midi_model.proofs.Steady.{Steady, steady-quiet, steady-step}
+use Rattle.midi_model.specs.MusicLaws.{EventsSettle}
+use Rattle.retune_model.proofs.Steady.{play-append, music_all}
+use Rattle.retune_model.proofs.Steady.{Steady, steady-quiet, steady-step}
 use Rattle.retune_model.proofs.Same.{same_block}
 
 -- what a block keeps: it is silent around its event, and what is ready stays ready
@@ -98,10 +99,10 @@ dump_keeps s h b m e st r = record {
   ready = ready_next b m e.tick (doing e.what) r;
 }
 
-pub dump_same : (s : Setup) (es : List MidiEvent) → IsHarmless s → (after (dump_output s es)).music ≡ (after es).music
-dump_same s es h =
+pub dump_same : (settled : EventsSettle) (s : Setup) (es : List MidiEvent) → IsHarmless s → (after (dump_output s es)).music ≡ (after es).music
+dump_same settled s es h =
     music_all start (dump_output s es)
-    ∙ same_translated (dump_block s) (λ b e. dump_next b (doing e.what)) Ready (dump_keeps s h) false quiet es steady-quiet (unselected-quiet quiet refl)
+    ∙ same_translated (dump_block s) (λ b e. dump_next b (doing e.what)) Ready (dump_keeps s h) false quiet es (steady-quiet settled) (unselected-quiet quiet refl)
     ∙ sym (music_all start es)
 
 silent_if : (m : Music) (b : Bool) (g : Group) → AreSilent m (g ∷ []) → AreSilent m (cond b (g ∷ []) [])
@@ -138,8 +139,8 @@ live_keeps l h s m e st r = record {
   ready = ready_live l s m e.tick (doing e.what) r;
 }
 
-pub live_same : (l : Live) (es : List MidiEvent) → IsHarmlessLive l → (after (live_output l es)).music ≡ (after es).music
-live_same l es h =
+pub live_same : (settled : EventsSettle) (l : Live) (es : List MidiEvent) → IsHarmlessLive l → (after (live_output l es)).music ≡ (after es).music
+live_same settled l es h =
     music_all start (live_output l es)
-    ∙ same_translated (live_block l) (λ s e. live_next l s (doing e.what)) (λ s m. Ready s.begun m) (live_keeps l h) nothing_told quiet es steady-quiet (unselected-quiet quiet refl)
+    ∙ same_translated (live_block l) (λ s e. live_next l s (doing e.what)) (λ s m. Ready s.begun m) (live_keeps l h) nothing_told quiet es (steady-quiet settled) (unselected-quiet quiet refl)
     ∙ sym (music_all start es)

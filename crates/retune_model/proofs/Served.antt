@@ -10,8 +10,9 @@ use Rattle.mt_base.specs.Valid.{IsValidWhat, IsValidEvent}
 use Rattle.midi_model.specs.Sysex.{is_reset}
 use Rattle.midi_model.specs.Tuning.{selected_of}
 use Rattle.midi_model.specs.Music.{Music, step, play}
+use Rattle.midi_model.specs.MusicLaws.{NotesFade}
 use Rattle.midi_model.specs.Zones.{no_zones}
-use Rattle.midi_model.proofs.Begun.{AllNotes, Begins, BeginsIn, all_step}
+use Rattle.retune_model.proofs.Begun.{AllNotes, Begins, BeginsIn, all_step}
 use Rattle.retune_model.specs.Table.{tuning_target}
 use Rattle.retune_model.specs.Options.{Options, ByDump, has_drums, is_drum_message, keeps_drums, is_retuned}
 use Rattle.retune_model.specs.PlaysTheSame.{begins_note}
@@ -157,14 +158,14 @@ begins_what o table bytes source m after t (MetaOf kind bs) route f valid shows 
 abbrev pub IsKnown : Options → List MidiEvent → MidiEvent → Type 0
 IsKnown o source e = IsValidEvent e × Shows o source e.what
 
-pub served_step : (o : Options) (table : Targets) (bytes : List ℕ) (source : List MidiEvent) (m : Music) (e : MidiEvent) → o.route ≡ ByDump → fault_at o table m e ≡ None → IsKnown o source e
+pub served_step : NotesFade → (o : Options) (table : Targets) (bytes : List ℕ) (source : List MidiEvent) (m : Music) (e : MidiEvent) → o.route ≡ ByDump → fault_at o table m e ≡ None → IsKnown o source e
     → AllNotes (IsServed o table bytes source) m.notes → AllNotes (IsServed o table bytes source) (step m e).notes
-served_step o table bytes source m e route f known h = all_step (IsServed o table bytes source) m e h (begins_what o table bytes source m (step m e) e.tick e.what route f known.0.what known.1)
+served_step fade o table bytes source m e route f known h = all_step fade (IsServed o table bytes source) m e h (begins_what o table bytes source m (step m e) e.tick e.what route f known.0.what known.1)
 
-pub served_play : (o : Options) (table : Targets) (bytes : List ℕ) (source : List MidiEvent) (m : Music) (es : List MidiEvent) → o.route ≡ ByDump → IsFaultless o table m es → AllByRecursion (IsKnown o source) es
+pub served_play : NotesFade → (o : Options) (table : Targets) (bytes : List ℕ) (source : List MidiEvent) (m : Music) (es : List MidiEvent) → o.route ≡ ByDump → IsFaultless o table m es → AllByRecursion (IsKnown o source) es
     → AllNotes (IsServed o table bytes source) m.notes → AllNotes (IsServed o table bytes source) (play m es).notes
-served_play o table bytes source m [] route f known h = h
-served_play o table bytes source m (e ∷ es) route f known h = served_play o table bytes source (step m e) es route f.1 known.1 (served_step o table bytes source m e route f.0 known.0 h)
+served_play fade o table bytes source m [] route f known h = h
+served_play fade o table bytes source m (e ∷ es) route f known h = served_play fade o table bytes source (step m e) es route f.1 known.1 (served_step fade o table bytes source m e route f.0 known.0 h)
 
 pub zones_play : (o : Options) (table : Targets) (m : Music) (es : List MidiEvent) → IsFaultless o table m es → m.zones ≡ no_zones → (play m es).zones ≡ no_zones
 zones_play o table m [] f z = z

@@ -9,8 +9,8 @@ use Rattle.midi_model.specs.Zones.{governor, bend_ranges, zones_with}
 use Rattle.midi_model.specs.Notes.{Note}
 use Rattle.midi_model.specs.Music.{Music, channel_at, pedal, settle_note, settle, asked, advance, step, play}
 use Rattle.retune_model.specs.Blocks.{says, selecting, Group, Selects, Sends, events_of, all_events, IsSilent, AreSilent}
-use Rattle.midi_model.proofs.Same.{play-append}
-use Rattle.midi_model.proofs.Steady.{Steady}
+use Rattle.retune_model.proofs.Steady.{play-append}
+use Rattle.retune_model.proofs.Steady.{Steady}
 
 -- a channel's selection replaced
 abbrev pub turned : ℕ → Selection → Music → Music
@@ -41,8 +41,11 @@ settle_all-turned m c s t (n ∷ ns) = rw (settle-turned m c s t n, settle_all-t
 
 pub steady-turned : (m : Music) (c : ℕ) (s : Selection) → Steady m → Steady (turned c s m)
 steady-turned m c s h = record {
-  settled = λ t. settle_all-turned m c s t m.notes ∙ h.settled t;
-  wide = length-set m.channels c (record (channel_at m c) { selection = s }) ∙ h.wide;
+  now = record {
+    notes = λ t. settle_all-turned m c s t m.notes ∙ h.now.notes t;
+    channels = length-set m.channels c (record (channel_at m c) { selection = s }) ∙ h.now.channels;
+  };
+  later = h.later;
 }
 
 pub turned-at : (m : Music) (c : ℕ) (s : Selection) → c < length m.channels → (channel_at (turned c s m) c).selection ≡ s
@@ -50,7 +53,7 @@ turned-at m c s h = ap (λ x. x.selection) (get_or-set_same m.channels c (record
 
 -- settling changes nothing where the music is steady
 pub settle-steady : (m : Music) (t : ℕ) → Steady m → settle t m ≡ m
-settle-steady m t h = ap (λ ns. record m { notes = ns }) (h.settled t)
+settle-steady m t h = ap (λ ns. record m { notes = ns }) (h.now.notes t)
 
 abbrev pub after_high : ℕ → Selection → Selection
 after_high v s = record { registered = true; rpn = (v, s.rpn.1); nrpn = s.nrpn }
@@ -135,7 +138,7 @@ pub sysex_silent : (m : Music) (t track : ℕ) (bytes : List ℕ) → is_reset b
 sysex_silent m t track bytes e = ap (λ b. advance t (cond b Resets (tunes (tuning_of bytes))) m) e ∙ tunes_silent m t (tuning_of bytes)
 
 pub group_silent : (m : Music) (g : Group) → Steady m → IsSilent m g → play m (events_of g) ≡ m
-group_silent m (Selects t track c p) h s = select_silent m t track c p h (rw h.wide s.0) s.1
+group_silent m (Selects t track c p) h s = select_silent m t track c p h (rw h.now.channels s.0) s.1
 group_silent m (Sends t track bytes) h s = sysex_silent m t track bytes s
 
 pub groups_silent : (m : Music) (gs : List Group) → Steady m → AreSilent m gs → play m (all_events gs) ≡ m

@@ -12,7 +12,8 @@ use Rattle.retune_model.specs.Blocks.{Group, Selects, Sends}
 use Rattle.retune_model.specs.Routes.{Live, Told, nothing_told, IsHarmless, IsHarmlessLive, selects, setup_at, tuned_by, renewed, tuning_run, dump_before, dump_behind, change_due, keys_told, live_before, live_next, live_block, live_output}
 use Rattle.retune_model.specs.Plain.{is_plain, ArePlain, IsTold, told_after, Reads}
 use Rattle.midi_model.specs.Receiver.{start, after}
-use Rattle.midi_model.proofs.Steady.{steady-quiet}
+use Rattle.midi_model.specs.MusicLaws.{EventsSettle}
+use Rattle.retune_model.proofs.Steady.{steady-quiet}
 use Rattle.retune_model.proofs.SameMusic.{Ready, live_keeps, unselected-quiet}
 use Rattle.retune_model.proofs.Tunings.{received}
 use Rattle.retune_model.proofs.Tuned.{values_selects, wide_selects, all_selects, Leaves, leaves_message, all_left}
@@ -155,10 +156,10 @@ pub told_run : (l : Live) (value : ℕ → ℕ) (s : Told) (m : Music) (es : Lis
 told_run l value s m [] u h r parts plain k = k
 told_run l value s m (e ∷ es) u h r parts plain k = told_run l value (live_next l s (doing e.what)) (step m e) es _ h r parts plain.1 (told_next l value s m e (doing e.what) u h r parts plain.0 k)
 
-pub live_tuned : (l : Live) (value : ℕ → ℕ) (es : List MidiEvent) → IsHarmlessLive l → Reads l value → AllByRecursion (λ c. l.is_retuned c ≡ true) l.setup.channels
+pub live_tuned : (settled : EventsSettle) (l : Live) (value : ℕ → ℕ) (es : List MidiEvent) → IsHarmlessLive l → Reads l value → AllByRecursion (λ c. l.is_retuned c ≡ true) l.setup.channels
     → ArePlain l.is_retuned quiet es → IsTold l value (told_after l nothing_told es) (after (live_output l es)).tuning
-live_tuned l value es h r parts plain =
+live_tuned settled l value es h r parts plain =
     let whole : (after (live_output l es)).tuning ≡ tuning_run (live_block l) (λ s e. live_next l s (doing e.what)) nothing_told quiet untuned es =
-    ap (λ x. x.tuning) (received (live_block l) (λ s e. live_next l s (doing e.what)) (λ s m. Ready s.begun m) (live_keeps l h) nothing_told start es steady-quiet (unselected-quiet quiet refl)) in
+    ap (λ x. x.tuning) (received (live_block l) (λ s e. live_next l s (doing e.what)) (λ s m. Ready s.begun m) (live_keeps l h) nothing_told start es (steady-quiet settled) (unselected-quiet quiet refl)) in
     let Q : Tuning → Type 0 = λ u. IsTold l value (told_after l nothing_told es) u in
     subst Q (sym whole) (told_run l value nothing_told quiet es untuned h.setup r parts plain (record { values = λ k t. absurd cc; selected = λ t. absurd cc; wide = refl }))

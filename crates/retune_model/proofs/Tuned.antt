@@ -15,7 +15,8 @@ use Rattle.midi_model.specs.Receiver.{start, after}
 use Rattle.retune_model.specs.Blocks.{Group}
 use Rattle.retune_model.specs.Routes.{Setup, IsHarmless, sends, selects, setup_at, tuned_by, renewed, tuning_run, dump_before, dump_behind, dump_next, dump_block, dump_output}
 use Rattle.retune_model.specs.Plain.{is_plain_entry, is_plain, ArePlain, valued, told, IsTuned, has_begun}
-use Rattle.midi_model.proofs.Steady.{steady-quiet}
+use Rattle.midi_model.specs.MusicLaws.{EventsSettle}
+use Rattle.retune_model.proofs.Steady.{steady-quiet}
 use Rattle.retune_model.proofs.SameMusic.{Ready, dump_keeps, unselected-quiet}
 use Rattle.retune_model.proofs.Tunings.{received}
 
@@ -153,11 +154,11 @@ tells_run s part b m [] u h parts plain k = k
 tells_run s part b m (e ∷ es) u h parts plain k = tells_run s part (dump_next b (doing e.what)) (step m e) es _ h parts plain.1 (tells_next s part b m e (doing e.what) u h parts plain.0 k)
 
 -- once a channel message came, every retuned part plays the setup's tuning
-pub dump_tuned : (s : Setup) (part : ℕ → Bool) (es : List MidiEvent) → IsHarmless s → AllByRecursion (λ c. part c ≡ true) s.channels
+pub dump_tuned : (settled : EventsSettle) (s : Setup) (part : ℕ → Bool) (es : List MidiEvent) → IsHarmless s → AllByRecursion (λ c. part c ≡ true) s.channels
     → ArePlain part quiet es → has_begun false es ≡ true → IsTuned s (after (dump_output s es)).tuning
-dump_tuned s part es h parts plain begun =
+dump_tuned settled s part es h parts plain begun =
     let whole : (after (dump_output s es)).tuning ≡ tuning_run (dump_block s) (λ c e. dump_next c (doing e.what)) false quiet untuned es =
-    ap (λ x. x.tuning) (received (dump_block s) (λ b e. dump_next b (doing e.what)) Ready (dump_keeps s h) false start es steady-quiet (unselected-quiet quiet refl)) in
+    ap (λ x. x.tuning) (received (dump_block s) (λ b e. dump_next b (doing e.what)) Ready (dump_keeps s h) false start es (steady-quiet settled) (unselected-quiet quiet refl)) in
     let P : Bool → Type 0 = λ b. Tells s b (tuning_run (dump_block s) (λ c e. dump_next c (doing e.what)) false quiet untuned es) in
     let Q : Tuning → Type 0 = λ u. IsTuned s u in
     subst Q (sym whole) (subst P begun (tells_run s part false quiet es untuned h parts plain (refl, refl)))

@@ -9,9 +9,9 @@ use Rattle.midi_model.specs.Tuning.{Tuning, chosen, tuning_after}
 use Rattle.midi_model.specs.Receiver.{Receiver, receive, receive_all}
 use Rattle.retune_model.specs.Blocks.{says, selecting, Group, Selects, Sends, events_of, all_events, IsSilent, AreSilent, Block, written}
 use Rattle.retune_model.specs.Routes.{translated, renewed, tuned_by, tuning_run}
-use Rattle.midi_model.proofs.Steady.{Steady, steady-step}
+use Rattle.retune_model.proofs.Steady.{Steady, steady-step}
 use Rattle.retune_model.proofs.Silent.{turned, turned-same, turned-at, after_high, tuning_selected, high, low_byte, group_silent}
-use Rattle.midi_model.proofs.Same.{music_all, receive_all-append}
+use Rattle.retune_model.proofs.Steady.{music_all, receive_all-append}
 use Rattle.retune_model.proofs.SameMusic.{Keeps}
 
 -- after the first two messages of a selection the tuning program is selected for data entry
@@ -36,7 +36,7 @@ sends_tunes m (Some r) u = refl
 sends_tunes m None u = refl
 
 group_tunes : (r : Receiver) (g : Group) → Steady r.music → IsSilent r.music g → (receive_all r (events_of g)).tuning ≡ tuned_by (g ∷ []) r.tuning
-group_tunes r (Selects t track c p) h s = select_tunes r t track c p h (rw h.wide s.0) s.1
+group_tunes r (Selects t track c p) h s = select_tunes r t track c p h (rw h.now.channels s.0) s.1
 group_tunes r (Sends t track bytes) h s = ap (λ b. tuning_after r.music (cond b Resets (tunes (tuning_of bytes))) r.tuning) s ∙ sends_tunes r.music (tuning_of bytes) r.tuning
 
 abbrev pub made : Music → Tuning → Receiver

@@ -1,11 +1,11 @@
 -- What a source may not hold (this project's own). The kinds are numbered 1 to 12 in the order in which they stand here.
-use Rattle.std.specs.Prelude.{◌≡◌, ℕ, suc, ℤ, pos, negsuc, ◌+ℤ◌, List, [], ◌∷◌, Bool, true, false, ◌&&◌, ◌||◌, not, nat_eq, nat_lt, if◌then◌else◌, Option, Some, None, is_some, length, filter}
+use Rattle.std.specs.Prelude.{◌≡◌, ℕ, suc, ℤ, pos, negsuc, ◌+ℤ◌, List, [], ◌∷◌, Bool, true, false, ◌&&◌, ◌||◌, not, nat_eq, nat_lt, if◌then◌else◌, Option, Some, None, is_some}
 use Rattle.mt_base.specs.declared.event.Msg.{Msg}
 use Rattle.mt_base.specs.declared.event.Msg.TheVariants.{NoteOn, KeyPressure, Control}
 use Rattle.mt_base.specs.Midi.{MidiWhat, Says, SysexOf, MetaOf, MidiEvent, channel_of}
 use Rattle.midi_model.specs.Sysex.{is_tuning}
-use Rattle.midi_model.specs.Params.{Entry, pair_eq, rank}
-use Rattle.midi_model.specs.Channel.{Channel, counted, Selection, Role, EntryHigh, EntryLow, role}
+use Rattle.midi_model.specs.Params.{pair_eq}
+use Rattle.midi_model.specs.Channel.{counted, Selection, Role, EntryHigh, EntryLow, role}
 use Rattle.midi_model.specs.Notes.{Note, sounds}
 use Rattle.midi_model.specs.Music.{Music, channel_at, step}
 use Rattle.retune_model.specs.Table.{Bounds, BendTarget, bend_target, tuning_target}

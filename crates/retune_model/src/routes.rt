@@ -19,23 +19,32 @@ ghost use Rattle.retune_model.specs.Dump.{dumped, told_live};
 ghost use Rattle.retune_model.specs.Dumpable.{IsDumpable, IsLivable};
 ghost use Rattle.retune_model.specs.Plain.{ArePlain, IsTuned, IsTold, Reads, has_begun, told_after};
 
+use midi_model::music_laws;
+use mt_base::laws::{exact, sums, wider};
+
 /// Blocks whose groups aren't heard play the source's music: after each block, and within a block right after its source event.
 pub fn blocks_play_the_source()
     ensures each { (xs ys : List Block) → Fits quiet (xs ++ ys) → (after (output xs)).music ≡ (after (sources xs)).music }
     ensures within { (xs : List Block) (b : Block) (ys : List Block) → Fits quiet (xs ++ b ∷ ys) → (after (output xs ++ (all_events b.before ++ b.event ∷ []))).music ≡ (after (sources xs ++ b.event ∷ [])).music }
-{}
+{
+    music_laws();
+}
 
 /// What the dump route writes plays the source's music, and once a channel message came, its tuning is the dumped one.
 pub fn dump_plays_the_source()
     ensures music { (s : Setup) (es : List MidiEvent) → IsHarmless s → (after (dump_output s es)).music ≡ (after es).music }
     ensures tuning { (s : Setup) (part : ℕ → Bool) (es : List MidiEvent) → IsHarmless s → AllByRecursion (λ c. part c ≡ true) s.channels → ArePlain part quiet es → has_begun false es ≡ true → IsTuned s (after (dump_output s es)).tuning }
-{}
+{
+    music_laws();
+}
 
 /// What the live route writes plays the source's music, and each key that it told has its value.
 pub fn live_plays_the_source()
     ensures music { (l : Live) (es : List MidiEvent) → IsHarmlessLive l → (after (live_output l es)).music ≡ (after es).music }
     ensures tuning { (l : Live) (value : ℕ → ℕ) (es : List MidiEvent) → IsHarmlessLive l → Reads l value → AllByRecursion (λ c. l.is_retuned c ≡ true) l.setup.channels → ArePlain l.is_retuned quiet es → IsTold l value (told_after l nothing_told es) (after (live_output l es)).tuning }
-{}
+{
+    music_laws();
+}
 
 /// For a source without a fault and the dump of its table's targets, what the dump route writes plays the same: at every tick the
 /// same notes, each within half a step of 1/16384 semitone and a thousandth of a cent of its source pitch, and right from its
@@ -45,7 +54,12 @@ pub fn dump_plays_the_same()
     ensures others { (scaling : Scaling) (o : Options) (table : Targets) (bytes : List ℕ) (es : List MidiEvent) → IsDumpable scaling o table bytes es → KeepsOtherEvents o es (dumped o bytes es) }
     ensures drums { (o : Options) (bytes : List ℕ) (es : List MidiEvent) → KeepsDrums o es (dumped o bytes es) }
     ensures file { (scaling : Scaling) (o : Options) (table : Targets) (bytes : List ℕ) (source out : MidiFile) → HasSameShape source out → merged out ≡ dumped o bytes (merged source) → IsDumpable scaling o table bytes (merged source) → PlaysTheSame scaling o table source out }
-{}
+{
+    music_laws();
+    sums();
+    exact();
+    wider();
+}
 
 /// The same for what the live route writes, with the bytes of a change of each key to its target.
 pub fn live_plays_the_same()
@@ -53,7 +67,12 @@ pub fn live_plays_the_same()
     ensures others { (scaling : Scaling) (o : Options) (table : Targets) (change : ℕ → List ℕ) (es : List MidiEvent) → IsLivable scaling o table change es → KeepsOtherEvents o es (told_live o change es) }
     ensures drums { (o : Options) (change : ℕ → List ℕ) (es : List MidiEvent) → KeepsDrums o es (told_live o change es) }
     ensures file { (scaling : Scaling) (o : Options) (table : Targets) (change : ℕ → List ℕ) (source out : MidiFile) → HasSameShape source out → merged out ≡ told_live o change (merged source) → IsLivable scaling o table change (merged source) → PlaysTheSame scaling o table source out }
-{}
+{
+    music_laws();
+    sums();
+    exact();
+    wider();
+}
 
 /// The events of a list that can be played come in the order of their ticks.
 pub fn playable_in_order()

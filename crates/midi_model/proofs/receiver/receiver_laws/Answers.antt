@@ -1,6 +1,6 @@
-use Rattle.std.proofs.Common.{◌≡◌, ◌≤◌, ap, subst, sym, List}
+use Rattle.std.proofs.Common.{◌≤◌, subst, sym}
 use Rattle.std.specs.List.{AllByRecursion}
-use Rattle.midi_model.specs.Notes.{Note, sounding_on}
+use Rattle.midi_model.specs.Notes.{sounding_on}
 use Rattle.midi_model.specs.Zones.{AreApart}
 use Rattle.midi_model.specs.Music.{Music}
 use Rattle.midi_model.specs.Receiver.{start}

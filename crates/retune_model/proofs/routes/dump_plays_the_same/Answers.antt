@@ -1,10 +1,11 @@
+use Rattle.retune_model.proofs.Laws.{laws}
 use Rattle.retune_model.proofs.DumpSame.{dump_plays_the_same}
 use Rattle.retune_model.proofs.Others.{others_kept, drums_kept}
 use Rattle.retune_model.proofs.DumpFile.{dump_file}
 use Rattle.retune_model.proofs.routes.dump_plays_the_same.Goals as goal
 
 pub returns-clause-music : goal.returns-clause-music
-returns-clause-music c = dump_plays_the_same
+returns-clause-music c = dump_plays_the_same (laws c.sums.ensures.least c.sums.ensures.most c.exact.ensures.least c.exact.ensures.most c.wider.ensures.least c.wider.ensures.most c.music_laws.ensures.settled c.music_laws.ensures.fade)
 
 pub returns-clause-others : goal.returns-clause-others
 returns-clause-others c = others_kept
@@ -13,4 +14,4 @@ pub returns-clause-drums : goal.returns-clause-drums
 returns-clause-drums c = drums_kept
 
 pub returns-clause-file : goal.returns-clause-file
-returns-clause-file c = dump_file
+returns-clause-file c = dump_file (laws c.sums.ensures.least c.sums.ensures.most c.exact.ensures.least c.exact.ensures.most c.wider.ensures.least c.wider.ensures.most c.music_laws.ensures.settled c.music_laws.ensures.fade)
