@@ -7,7 +7,7 @@ use Rattle.mt_base.specs.Midi.{MidiEvent, MetaOf}
 use Rattle.midi_model.specs.Music.{quiet}
 use Rattle.midi_model.specs.Examples.{at, all_at, sysex, general_midi_on, registered}
 use Rattle.retune_model.specs.Scale.{Step, Ratio, Cents, Mapping}
-use Rattle.retune_model.specs.Table.{Bounds}
+use Rattle.retune_model.specs.Table.{Bounds, Scaling, one_scale}
 use Rattle.retune_model.specs.Options.{Options, Route, ByBend, ByMpe}
 use Rattle.retune_model.specs.Faults.{Targets, Kind, first_fault}
 use Rattle.retune_model.specs.Numbered.{numbered}
@@ -37,6 +37,13 @@ gapped_mapping reference = record {
   octave = 12;
   entries = Some 0 ∷ None ∷ Some 2 ∷ Some 3 ∷ Some 4 ∷ Some 5 ∷ Some 6 ∷ Some 7 ∷ Some 8 ∷ Some 9 ∷ Some 10 ∷ Some 11 ∷ [];
 }
+
+-- no key is in the mapped range, so that every key is in equal temperament
+abbrev pub no_keys : Mapping
+no_keys = record { first = 200; last = 200; middle = 60; reference = 60; nanohertz = 440000000000; octave = 0; entries = [] }
+
+abbrev pub even : Scaling
+even = one_scale [] no_keys
 
 -- ---- tables
 

@@ -15,7 +15,13 @@ ghost use Rattle.retune_model.specs.Numbered.{numbered, tick_at};
 ghost use Rattle.retune_model.specs.Pairs.{pairs_at};
 ghost use Rattle.retune_model.specs.Dump.{dumped, told_live};
 ghost use Rattle.retune_model.specs.MpeOutput.{mpe_output, zones_for, lower_allowed, members_from};
-ghost use Rattle.retune_model.specs.Examples.{two_steps, comma, comma_mapping, gapped_mapping, equal_table, just_table, gapped_table, joined_table, with_route, bend_options, mpe_options, end_at, one_note, chord, octave_apart, two_parts, taken_over, reset_between, wheel, counts, fault_of, on_first, on_three, bent, ready, change};
+ghost use Rattle.retune_model.specs.Examples.{two_steps, comma, comma_mapping, gapped_mapping, equal_table, just_table, gapped_table, joined_table, with_route, bend_options, mpe_options, end_at, one_note, chord, octave_apart, two_parts, taken_over, reset_between, wheel, counts, fault_of, on_first, on_three, bent, ready, change, even};
+ghost use Rattle.retune_model.specs.PlaysTheSame.{PlaysTheSameMusic};
+ghost use Rattle.retune_model.specs.Dumpable.{IsDumpable};
+
+use mt_base::laws::exact;
+
+use crate::routes::dump_plays_the_same;
 
 /// Scale pitches and term counts, by example: a step of 50 cents from key 69, a map with a key left out, and a key 6,000 commas away.
 pub fn scale_examples()
@@ -99,3 +105,12 @@ pub fn zone_examples()
     ensures upper_members { members_from (record { part = 1; upper = true; members = 5 }) 0 5 ≡ 14 ∷ 13 ∷ 12 ∷ 11 ∷ 10 ∷ [] }
     ensures lower_members { members_from (record { part = 0; upper = false; members = 2 }) 0 2 ≡ 1 ∷ 2 ∷ [] }
 {}
+
+/// The premises of the dump route's law can be met: a source with a reset between two notes, in equal temperament.
+pub fn dumpable_example()
+    ensures dumpable { IsDumpable even (with_route ByDump 12) equal_table dump reset_between }
+    ensures same { PlaysTheSameMusic even (with_route ByDump 12) equal_table reset_between (dumped (with_route ByDump 12) dump reset_between) }
+{
+    exact();
+    dump_plays_the_same();
+}

@@ -10,8 +10,8 @@ mod routes;
 pub use channels::{need_laws, position_laws, run_laws};
 pub use dump::dump_is_playable;
 pub use examples::{
-    bend_examples, fault_examples, output_examples, pair_examples, scale_examples, target_examples,
-    zone_examples,
+    bend_examples, dumpable_example, fault_examples, output_examples, pair_examples,
+    scale_examples, target_examples, zone_examples,
 };
 pub use faults::zone_entries_set_zones;
 pub use routes::{
