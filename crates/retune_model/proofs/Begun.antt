@@ -33,7 +33,8 @@ all_faded R f [] (x ∷ xs) h k = absurd h
 all_faded R f (n ∷ ns) [] h k = absurd h
 all_faded R f (n ∷ ns) (x ∷ xs) h k = (f n x h.0 k.0, all_faded R f ns xs h.1 k.1)
 
-pub all_advanced : NotesFade → (R : Note → Type 0) → ((a b : Note) → Fades a b → R a → R b) → (m : Music) (t : ℕ) (d : Doing) → AllByRecursion R m.notes → BeginsA R m t d → AllByRecursion R (advance t d m).notes
+pub all_advanced : NotesFade → (R : Note → Type 0) → ((a b : Note) → Fades a b → R a → R b) → (m : Music) (t : ℕ) (d : Doing)
+    → AllByRecursion R m.notes → BeginsA R m t d → AllByRecursion R (advance t d m).notes
 all_advanced fade R f m t d h b = all_faded R f (m.notes ++ begun_by m t d) (advance t d m).notes (fade m t d) (all_append R m.notes (begun_by m t d) h b)
 
 begun_message : (P : ℕ → ℕ → ℕ → Type 0) (m : Music) (t : ℕ) (msg : Msg) → Begins P t msg → BeginsA (λ n. P n.channel n.key n.onset) m t (Plays msg)

@@ -19,9 +19,8 @@ ghost use Rattle.retune_model.specs.Examples.{two_steps, comma, comma_mapping, g
 ghost use Rattle.retune_model.specs.PlaysTheSame.{PlaysTheSameMusic};
 ghost use Rattle.retune_model.specs.Dumpable.{IsDumpable};
 
-use mt_base::laws::exact;
-
 use crate::routes::dump_plays_the_same;
+use mt_base::laws::exact;
 
 /// Scale pitches and term counts, by example: a step of 50 cents from key 69, a map with a key left out, and a key 6,000 commas away.
 pub fn scale_examples()
