@@ -9,7 +9,7 @@ use Rattle.std.proofs.lemmas.List.{get_or-map, same_lists, get_or_default, get_o
 use Rattle.std.proofs.lemmas.Bool.{eq-eqb, ne_eqb}
 use Rattle.receiver.specs.State.{own_of}
 use Rattle.receiver.specs.Heard.{heard, turned_by, without_pedal}
-use Rattle.receiver.specs.Stands.{turn_of, reaches, SameSetUp}
+use Rattle.receiver.specs.Following.{turn_of, reaches, SameSetUp}
 use Rattle.receiver.specs.declared.receiver.Receiver.{Receiver}
 use Rattle.receiver.specs.Turns.{kept}
 use Rattle.receiver.specs.declared.turn.Turn.{Turn}

@@ -2,7 +2,7 @@
 use Rattle.std.proofs.Common.{◌≡◌, ℕ, Bool, true, false, cond, ◌&&◌, nat_eq, Some, None, refl, ap}
 use Rattle.midi_model.specs.Zones.{Zones, governor}
 use Rattle.midi_model.specs.Notes.{Note, sounds, is_pedal_down, sostenuto, hears, ending, releasing, end_all, release_all}
-use Rattle.receiver.specs.Stands.{turn_of}
+use Rattle.receiver.specs.Following.{turn_of}
 use Rattle.receiver.specs.Turns.{kept}
 use Rattle.receiver.specs.declared.turn.Turn.TheVariants.{SoundOff, NotesOff, Capture, Free}
 use Rattle.receiver.proofs.Here.{Slot, IsHere}

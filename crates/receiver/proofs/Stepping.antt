@@ -11,7 +11,8 @@ use Rattle.midi_model.specs.Tuning.{Tuning, chosen, chosen_by, tuning_heard, tun
 use Rattle.midi_model.specs.Receiver.{after, receive}
 use Rattle.receiver.specs.declared.receiver.Receiver.{Receiver}
 use Rattle.receiver.specs.Sounding.{sounding_at, ended_on}
-use Rattle.receiver.specs.Stands.{Stands, HasRoom, FollowsBy, set_up_of, slot, selected_in}
+use Rattle.receiver.specs.Following.{FollowsBy}
+use Rattle.receiver.specs.Stands.{Stands, HasRoom, set_up_of, slot, selected_in}
 use Rattle.receiver.specs.State.{program_chosen, program_by}
 use Rattle.receiver.specs.Tunings.{value_in}
 use Rattle.receiver.specs.Turns.{set_up, begins, strikes, sounding_after, channels_by, zones_by, selected_by, values_by}

@@ -9,3 +9,4 @@ pub mod Heard
 pub mod Zones
 pub mod Tunings
 pub mod Stands
+pub mod Following

@@ -1,21 +1,17 @@
 -- What the receiver, as the program keeps it, stands for.
-use Rattle.std.specs.Prelude.{Bool, ◌+◌, ◌≡◌, ◌<◌, ◌≤◌, ℕ, List, length, map, get_or, ◌&&◌, ◌||◌, nat_eq, if◌then◌else◌, Option, None}
+use Rattle.std.specs.Prelude.{◌≡◌, ◌<◌, ◌≤◌, ℕ, List, length, map, get_or, Option, None}
 use Rattle.std.specs.List.{AllByRecursion}
 use Rattle.mt_base.specs.Midi.{MidiEvent, MidiWhat, Says, channel_of}
 use Rattle.midi_model.specs.Channel.{Channel, default_channel, apply, counted}
-use Rattle.midi_model.specs.Zones.{Zones, governor}
-use Rattle.midi_model.specs.Notes.{Note, sounds}
+use Rattle.midi_model.specs.Notes.{Note}
 use Rattle.midi_model.specs.Music.{Music}
 use Rattle.midi_model.specs.Receiver.{after}
-use Rattle.midi_model.specs.Sysex.{Doing}
 use Rattle.receiver.specs.declared.receiver.Receiver.{Receiver}
-use Rattle.receiver.specs.declared.turn.Turn.{Turn}
-use Rattle.receiver.specs.declared.turn.Turn.TheVariants.{SoundOff, NotesOff, Capture, Free}
-use Rattle.receiver.specs.Heard.{heard, turned_by}
+use Rattle.receiver.specs.Heard.{heard}
 use Rattle.receiver.specs.Sounding.{sounding_at}
 use Rattle.receiver.specs.State.{own_of}
 use Rattle.receiver.specs.Tunings.{value_in}
-use Rattle.receiver.specs.Turns.{set_up, begins, sounding_after, channels_by, zones_by, selected_by, values_by}
+use Rattle.receiver.specs.Turns.{set_up}
 use Rattle.receiver.specs.Zones.{zones_in}
 
 abbrev pub states_of : Receiver → List Channel
@@ -58,34 +54,3 @@ HasRoom r what = HasRoomIn (states_of r) what
 -- how many notes began
 abbrev pub begun_in : Receiver → ℕ
 begun_in r = r.begun
-
--- ---- within a step
-
--- only what sounds may differ
-pub record SameSetUp (r s : Receiver) : Type 0 where
-  pub states : states_of s ≡ states_of r
-  pub selected : selected_in s ≡ selected_in r
-  pub zones : s.zones ≡ r.zones
-  pub begun : s.begun ≡ r.begun
-  pub tunings : s.tunings ≡ r.tunings
-
--- whether a controller of channel c reaches the notes of channel d: those that it governs, and its own where all notes end
--- or go up
-abbrev pub reaches : Turn → Zones → ℕ → ℕ → Bool
-reaches SoundOff z c d = nat_eq d c || nat_eq (governor z d) c
-reaches NotesOff z c d = nat_eq d c || nat_eq (governor z d) c
-reaches Capture z c d = nat_eq (governor z d) c
-reaches Free z c d = nat_eq (governor z d) c
-
--- what a controller of channel c does to a note
-abbrev pub turn_of : Turn → ℕ → Zones → ℕ → Note → Note
-turn_of turn t z c n = if reaches turn z c n.channel && sounds n then turned_by turn t n else n
-
--- what one event does, by what it is to the receiver
-pub record FollowsBy (r : Receiver) (t : ℕ) (doing : Doing) (s : Receiver) : Type 0 where
-  pub states : states_of s ≡ channels_by (set_up_of r) doing
-  pub zones : zones_in s.zones ≡ zones_by (set_up_of r) doing
-  pub begun : s.begun ≡ (if begins doing then r.begun + 1 else r.begun)
-  pub notes : (c k : ℕ) → c < 16 → k < 128 → slot s c k ≡ sounding_after (set_up_of r) (r.begun + 1) t doing c k (slot r c k)
-  pub selected : selected_in s ≡ selected_by (set_up_of r) doing (selected_in r)
-  pub values : (p k : ℕ) → p < 128 → k < 128 → value_in s.tunings p k ≡ values_by doing (value_in r.tunings) p k

@@ -113,7 +113,8 @@ impl Receiver {
     ghost use Rattle.receiver.specs.Turns.{kept, turned, acted, sounding_after, begins_by, strikes};
     ghost use Rattle.receiver.specs.Tunings.{value_in};
     ghost use Rattle.receiver.specs.Zones.{zones_in};
-    ghost use Rattle.receiver.specs.Stands.{Stands, SameSetUp, HasRoom, states_of, selected_in, set_up_of, slot, begun_in, FollowsBy, AreFew, turn_of, reaches};
+    ghost use Rattle.receiver.specs.Following.{SameSetUp, FollowsBy, turn_of, reaches};
+    ghost use Rattle.receiver.specs.Stands.{Stands, HasRoom, states_of, selected_in, set_up_of, slot, begun_in, AreFew};
 
     /// A receiver before any event: all channels have their defaults, and nothing sounds.
     pub fn new() -> Receiver

@@ -1,6 +1,7 @@
 use Rattle.std.proofs.Common.{◌≡◌, ◌<◌, ℕ, cond, nat_lt}
 use Rattle.midi_model.specs.Music.{settle_note}
-use Rattle.receiver.specs.Stands.{SameSetUp, states_of}
+use Rattle.receiver.specs.Following.{SameSetUp}
+use Rattle.receiver.specs.Stands.{states_of}
 use Rattle.receiver.specs.Turns.{kept}
 use Rattle.receiver.specs.Zones.{zones_in}
 use Rattle.receiver.proofs.Here.{slot_in}

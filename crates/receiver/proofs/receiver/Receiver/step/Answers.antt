@@ -1,7 +1,8 @@
 use Rattle.std.proofs.Common.{arith, ◌∙◌, ◌&&◌, ◌||◌, not, ap, sym, is_some, subst}
 use Rattle.mt_base.specs.Midi.{MidiWhat, view_what}
 use Rattle.midi_model.specs.Sysex.{doing}
-use Rattle.receiver.specs.Stands.{HasRoom, FollowsBy, slot}
+use Rattle.receiver.specs.Following.{FollowsBy}
+use Rattle.receiver.specs.Stands.{HasRoom, slot}
 use Rattle.receiver.specs.Turns.{strikes, begins}
 use Rattle.receiver.proofs.Stepping.{stands_then, ended_then, one_more}
 use Rattle.receiver.proofs.receiver.Receiver.step.Goals as goal

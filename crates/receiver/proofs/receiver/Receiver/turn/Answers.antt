@@ -1,5 +1,6 @@
 use Rattle.std.proofs.Common.{◌∙◌, ap, refl, arith, cond, nat_eq}
-use Rattle.receiver.specs.Stands.{turn_of, slot}
+use Rattle.receiver.specs.Following.{turn_of}
+use Rattle.receiver.specs.Stands.{slot}
 use Rattle.receiver.specs.Turns.{kept}
 use Rattle.receiver.specs.Zones.{zones_in}
 use Rattle.receiver.proofs.Here.{Slot, slot_in}

@@ -1,5 +1,5 @@
 use Rattle.std.proofs.Common.{◌≡◌, ◌<◌, ℕ, cond, nat_lt}
-use Rattle.receiver.specs.Stands.{SameSetUp, turn_of}
+use Rattle.receiver.specs.Following.{SameSetUp, turn_of}
 use Rattle.receiver.specs.Turns.{kept}
 use Rattle.receiver.specs.Zones.{zones_in}
 use Rattle.receiver.proofs.Here.{slot_in}
