@@ -24,3 +24,4 @@ pub mod Writing
 pub mod WritingLaws
 pub mod SizeLaws
 pub mod FileExamples
+pub mod WellFormed
