@@ -69,6 +69,9 @@ default_channel = record {
   pressure = 0;
 }
 
+abbrev pub default_state : State
+default_state = record { own = default_channel; keys = replicate 128 0 }
+
 -- how many parameters count for the limit
 abbrev pub counted : Channel → ℕ
 counted s = length (filter counts s.params)

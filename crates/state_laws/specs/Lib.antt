@@ -1,0 +1,9 @@
+pub mod StateLaws
+pub mod Reached
+pub mod Sent
+pub mod Counts
+pub mod Single
+pub mod Heard
+pub mod HeardLaws
+pub mod Strokes
+pub mod Several
