@@ -23,3 +23,4 @@ pub mod Equal
 pub mod Writes
 pub mod Spelt
 pub mod Sizes
+pub mod Aging
