@@ -5,8 +5,7 @@ use Rattle.kbm_text.specs.declared.fault.KbmKind.{KbmKind}
 use Rattle.kbm_text.specs.declared.fault.KbmKind.TheVariants.{MissingField, SizeRange, KeyRange, DegreeRange}
 use Rattle.kbm_text.specs.Reading.{Fault, ◌>>=◌, fault, on_line, field_at, Keys, keys_at, entry_lines, entries_at, map_at, map_of}
 use Rattle.kbm_text.specs.Field.{number_in, frequency_of, entry_of}
-use Rattle.kbm_text.specs.Map.{Map}
-use Rattle.kbm_text.specs.Ranges.{AreDegrees}
+use Rattle.kbm_text.specs.Map.{KeyMap}
 use Rattle.kbm_text.specs.Spelling.{IsIn, NotIn, IsFrequency, NoFrequency, IsEntry, AreEntries, IsMap, MapText, EntriesFault, FieldFault, OctaveFault, FrequencyFault, ReferenceFault, MiddleFault, LastFault, FirstFault, IsFault, MapFault}
 use Rattle.kbm_text.proofs.Premises.{Fronts, Numbers}
 use Rattle.kbm_text.proofs.Results.{bind_ok, bind_err, on_line_ok, on_line_err}
@@ -102,8 +101,8 @@ each_low (suc n) [] (entry ∷ entries) a (suc k) degree e = each_low n [] entri
 each_low (suc n) (line ∷ lines) (entry ∷ entries) a zero degree e = degree_low line.bytes entry degree a.0 (let h : entry ≡ Some degree = cc in h)
 each_low (suc n) (line ∷ lines) (entry ∷ entries) a (suc k) degree e = each_low n lines entries a.1 k degree e
 
-pub degrees : Fronts → Numbers → (n : ℕ) (lines : List Numbered) (entries : List (Option ℕ)) → entries_at n lines ≡ Ok entries → AreDegrees entries
-degrees fronts numbers n lines entries e = record { low = each_low n lines entries (entries_take fronts numbers n lines entries e) }
+pub degrees : Fronts → Numbers → (n : ℕ) (lines : List Numbered) (entries : List (Option ℕ)) → entries_at n lines ≡ Ok entries → (k degree : ℕ) → slice_get entries k ≡ Some (Some degree) → degree ≤ 16383
+degrees fronts numbers n lines entries e = each_low n lines entries (entries_take fronts numbers n lines entries e)
 
 -- ---- one field
 
@@ -161,7 +160,7 @@ binds (Ok x) f g = refl
 binds (Err e) f g = refl
 
 -- the mapping that is made of what was read
-made : Keys → ℕ → ℕ → List (Option ℕ) → Map
+made : Keys → ℕ → ℕ → List (Option ℕ) → KeyMap
 made keys frequency octave entries = record {
   first = keys.first;
   last = keys.last;
@@ -172,7 +171,7 @@ made keys frequency octave entries = record {
   entries = entries;
 }
 
-map_takes : Fronts → Numbers → (missing : ℕ) (lines : List Numbered) (m : Map) → map_at missing lines ≡ Ok m → IsMap lines m
+map_takes : Fronts → Numbers → (missing : ℕ) (lines : List Numbered) (m : KeyMap) → map_at missing lines ≡ Ok m → IsMap lines m
 unfolding map_at keys_at made
 map_takes fronts numbers missing lines m e =
     let a = bind_ok (field_at missing (number_in SizeRange 0 4096) lines) _ m e in
@@ -198,7 +197,7 @@ map_takes fronts numbers missing lines m e =
     let P : List Numbered → Type 0 = λ ls. IsMap ls m in
     let same : made (record { first = k1.0.0; last = k2.0.0; middle = k3.0.0; reference = k4.0.0 }) f.0.0 o.0.0 s.0 ≡ m =
     ap (λ (y : Keys × List Numbered). made y.0 f.0.0 o.0.0 s.0) keys ∙ ok_is _ m s.2 in
-    let Q : Map → Type 0 = λ x. IsMap (l1.0 ∷ l2.0 ∷ l3.0 ∷ l4.0 ∷ l5.0 ∷ l6.0 ∷ l7.0 ∷ o.0.1) x in
+    let Q : KeyMap → Type 0 = λ x. IsMap (l1.0 ∷ l2.0 ∷ l3.0 ∷ l4.0 ∷ l5.0 ∷ l6.0 ∷ l7.0 ∷ o.0.1) x in
     subst P (sym all) (subst Q same (
       a.0.0,
       in_takes numbers SizeRange 0 4096 l1.0.bytes a.0.0 l1.2,
@@ -211,7 +210,7 @@ map_takes fronts numbers missing lines m e =
       entries_take fronts numbers a.0.0 (entry_lines o.0.1) s.0 s.1,
     ))
 
-map_again : Fronts → Numbers → (missing : ℕ) (lines : List Numbered) (m : Map) → IsMap lines m → map_at missing lines ≡ Ok m
+map_again : Fronts → Numbers → (missing : ℕ) (lines : List Numbered) (m : KeyMap) → IsMap lines m → map_at missing lines ≡ Ok m
 unfolding map_at keys_at
 map_again fronts numbers missing (a ∷ b ∷ c ∷ d ∷ e ∷ f ∷ o ∷ lines) m (n, size, first, last, middle, reference, frequency, octave, entries) =
     rw (
@@ -248,14 +247,14 @@ fault_takes fronts numbers missing lines f e =
     (sym (binds (field_at missing (number_in KeyRange first 127) r2) _ _) ∙ e2))
     (sym (binds (field_at missing (number_in KeyRange 0 127) r1) _ _) ∙ e1)) e
   where
-    at_entries : (n : ℕ) (ls : List Numbered) (g : Fault) (make : List (Option ℕ) → Map) → (entries_at n ls >>= λ entries. Ok (make entries)) ≡ Err g → On (EntriesFault n ls) g
+    at_entries : (n : ℕ) (ls : List Numbered) (g : Fault) (make : List (Option ℕ) → KeyMap) → (entries_at n ls >>= λ entries. Ok (make entries)) ≡ Err g → On (EntriesFault n ls) g
     at_entries n ls g make h = elim (bind_err (entries_at n ls) (λ entries. Ok (make entries)) g h) [
       | inl b ↦ entries_fault fronts numbers n ls g b
       | inr b ↦ absurd (ok_not_err (make b.0) g b.2)
     ]
 
 -- what comes behind each field
-abbrev after_octave : ℕ → Keys → ℕ → ℕ × List Numbered → Result Map Fault
+abbrev after_octave : ℕ → Keys → ℕ → ℕ × List Numbered → Result KeyMap Fault
 after_octave size keys frequency octave = entries_at size (entry_lines octave.1) >>= λ entries. Ok (record {
   first = keys.first;
   last = keys.last;
@@ -266,13 +265,13 @@ after_octave size keys frequency octave = entries_at size (entry_lines octave.1)
   entries = entries;
 })
 
-abbrev after_frequency : ℕ → ℕ → Keys → ℕ × List Numbered → Result Map Fault
+abbrev after_frequency : ℕ → ℕ → Keys → ℕ × List Numbered → Result KeyMap Fault
 after_frequency missing size keys frequency = field_at missing (number_in DegreeRange 0 16383) frequency.1 >>= after_octave size keys frequency.0
 
-abbrev after_keys : ℕ → ℕ → Keys × List Numbered → Result Map Fault
+abbrev after_keys : ℕ → ℕ → Keys × List Numbered → Result KeyMap Fault
 after_keys missing size keys = field_at missing frequency_of keys.1 >>= after_frequency missing size keys.0
 
-abbrev after_size : ℕ → ℕ × List Numbered → Result Map Fault
+abbrev after_size : ℕ → ℕ × List Numbered → Result KeyMap Fault
 after_size missing size = keys_at missing size.1 >>= after_keys missing size.0
 
 abbrev after_reference : ℕ → ℕ → ℕ → ℕ × List Numbered → Result (Keys × List Numbered) Fault
@@ -289,49 +288,49 @@ after_first missing first = field_at missing (number_in KeyRange first.0 127) fi
 
 octave_again : Fronts → Numbers → (missing size : ℕ) (keys : Keys) (frequency : ℕ) (r : List Numbered) (line : ℕ) (kind : KbmKind) → OctaveFault missing size r line kind → after_frequency missing size keys (frequency, r) ≡ fault line kind
 octave_again fronts numbers missing size keys frequency r line kind s =
-    stopped_again {A = Map} missing (number_in DegreeRange 0 16383) (after_octave size keys frequency) r line kind (IsIn 0 16383) (NotIn DegreeRange 0 16383) (λ octave lines. EntriesFault size (entry_lines lines))
+    stopped_again {A = KeyMap} missing (number_in DegreeRange 0 16383) (after_octave size keys frequency) r line kind (IsIn 0 16383) (NotIn DegreeRange 0 16383) (λ octave lines. EntriesFault size (entry_lines lines))
     (in_again numbers DegreeRange 0 16383) (out_again numbers DegreeRange 0 16383) (λ octave r1 s1. rw (entries_fault_again fronts numbers size (entry_lines r1) line kind s1) refl) s
 
 frequency_fault_again : Fronts → Numbers → (missing size : ℕ) (keys : Keys) (r : List Numbered) (line : ℕ) (kind : KbmKind) → FrequencyFault missing size r line kind → after_keys missing size (keys, r) ≡ fault line kind
 frequency_fault_again fronts numbers missing size keys r line kind s =
-    stopped_again {A = Map} missing frequency_of (after_frequency missing size keys) r line kind IsFrequency NoFrequency (λ frequency. OctaveFault missing size)
+    stopped_again {A = KeyMap} missing frequency_of (after_frequency missing size keys) r line kind IsFrequency NoFrequency (λ frequency. OctaveFault missing size)
     (frequency_again fronts) (no_frequency_again fronts) (λ frequency r1 s1. octave_again fronts numbers missing size keys frequency r1 line kind s1) s
 
 reference_again : Fronts → Numbers → (missing size first last middle : ℕ) (r : List Numbered) (line : ℕ) (kind : KbmKind) → ReferenceFault missing size r line kind → (after_middle missing first last (middle, r) >>= after_keys missing size) ≡ fault line kind
 reference_again fronts numbers missing size first last middle r line kind s =
     binds (field_at missing (number_in KeyRange 0 127) r) (after_reference first last middle) (after_keys missing size)
-    ∙ stopped_again {A = Map} missing (number_in KeyRange 0 127) (λ x. after_reference first last middle x >>= after_keys missing size) r line kind (IsIn 0 127) (NotIn KeyRange 0 127) (λ reference. FrequencyFault missing size)
+    ∙ stopped_again {A = KeyMap} missing (number_in KeyRange 0 127) (λ x. after_reference first last middle x >>= after_keys missing size) r line kind (IsIn 0 127) (NotIn KeyRange 0 127) (λ reference. FrequencyFault missing size)
     (in_again numbers KeyRange 0 127) (out_again numbers KeyRange 0 127) (λ reference r1 s1. frequency_fault_again fronts numbers missing size (record { first = first; last = last; middle = middle; reference = reference }) r1 line kind s1) s
 
 middle_again : Fronts → Numbers → (missing size first last : ℕ) (r : List Numbered) (line : ℕ) (kind : KbmKind) → MiddleFault missing size r line kind → (after_last missing first (last, r) >>= after_keys missing size) ≡ fault line kind
 middle_again fronts numbers missing size first last r line kind s =
     binds (field_at missing (number_in KeyRange 0 127) r) (after_middle missing first last) (after_keys missing size)
-    ∙ stopped_again {A = Map} missing (number_in KeyRange 0 127) (λ x. after_middle missing first last x >>= after_keys missing size) r line kind (IsIn 0 127) (NotIn KeyRange 0 127) (λ middle. ReferenceFault missing size)
+    ∙ stopped_again {A = KeyMap} missing (number_in KeyRange 0 127) (λ x. after_middle missing first last x >>= after_keys missing size) r line kind (IsIn 0 127) (NotIn KeyRange 0 127) (λ middle. ReferenceFault missing size)
     (in_again numbers KeyRange 0 127) (out_again numbers KeyRange 0 127) (λ middle r1 s1. reference_again fronts numbers missing size first last middle r1 line kind s1) s
 
 last_again : Fronts → Numbers → (missing size first : ℕ) (r : List Numbered) (line : ℕ) (kind : KbmKind) → LastFault missing size first r line kind → (after_first missing (first, r) >>= after_keys missing size) ≡ fault line kind
 last_again fronts numbers missing size first r line kind s =
     binds (field_at missing (number_in KeyRange first 127) r) (after_last missing first) (after_keys missing size)
-    ∙ stopped_again {A = Map} missing (number_in KeyRange first 127) (λ x. after_last missing first x >>= after_keys missing size) r line kind (IsIn first 127) (NotIn KeyRange first 127) (λ last. MiddleFault missing size)
+    ∙ stopped_again {A = KeyMap} missing (number_in KeyRange first 127) (λ x. after_last missing first x >>= after_keys missing size) r line kind (IsIn first 127) (NotIn KeyRange first 127) (λ last. MiddleFault missing size)
     (in_again numbers KeyRange first 127) (out_again numbers KeyRange first 127) (λ last r1 s1. middle_again fronts numbers missing size first last r1 line kind s1) s
 
 first_again : Fronts → Numbers → (missing size : ℕ) (r : List Numbered) (line : ℕ) (kind : KbmKind) → FirstFault missing size r line kind → after_size missing (size, r) ≡ fault line kind
 unfolding keys_at
 first_again fronts numbers missing size r line kind s =
     binds (field_at missing (number_in KeyRange 0 127) r) (after_first missing) (after_keys missing size)
-    ∙ stopped_again {A = Map} missing (number_in KeyRange 0 127) (λ x. after_first missing x >>= after_keys missing size) r line kind (IsIn 0 127) (NotIn KeyRange 0 127) (λ first. LastFault missing size first)
+    ∙ stopped_again {A = KeyMap} missing (number_in KeyRange 0 127) (λ x. after_first missing x >>= after_keys missing size) r line kind (IsIn 0 127) (NotIn KeyRange 0 127) (λ first. LastFault missing size first)
     (in_again numbers KeyRange 0 127) (out_again numbers KeyRange 0 127) (λ first r1 s1. last_again fronts numbers missing size first r1 line kind s1) s
 
 fault_again : Fronts → Numbers → (missing : ℕ) (lines : List Numbered) (line : ℕ) (kind : KbmKind) → IsFault missing lines line kind → map_at missing lines ≡ fault line kind
 unfolding map_at
 fault_again fronts numbers missing lines line kind s =
-    stopped_again {A = Map} missing (number_in SizeRange 0 4096) (after_size missing) lines line kind (IsIn 0 4096) (NotIn SizeRange 0 4096) (λ size. FirstFault missing size)
+    stopped_again {A = KeyMap} missing (number_in SizeRange 0 4096) (after_size missing) lines line kind (IsIn 0 4096) (NotIn SizeRange 0 4096) (λ size. FirstFault missing size)
     (in_again numbers SizeRange 0 4096) (out_again numbers SizeRange 0 4096) (λ size r1 s1. first_again fronts numbers missing size r1 line kind s1) s
 
-pub read_is_map : Fronts → Numbers → (lines : List (List ℕ)) (m : Map) → map_of lines ≡ Ok m → MapText lines m
+pub read_is_map : Fronts → Numbers → (lines : List (List ℕ)) (m : KeyMap) → map_of lines ≡ Ok m → MapText lines m
 read_is_map fronts numbers lines m e = map_takes fronts numbers (length lines + 1) (content lines) m e
 
-pub map_is_read : Fronts → Numbers → (lines : List (List ℕ)) (m : Map) → MapText lines m → map_of lines ≡ Ok m
+pub map_is_read : Fronts → Numbers → (lines : List (List ℕ)) (m : KeyMap) → MapText lines m → map_of lines ≡ Ok m
 map_is_read fronts numbers lines m s = map_again fronts numbers (length lines + 1) (content lines) m s
 
 pub read_is_fault : Fronts → Numbers → (lines : List (List ℕ)) (line : ℕ) (kind : KbmKind) → map_of lines ≡ fault line kind → MapFault lines line kind

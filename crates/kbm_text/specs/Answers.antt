@@ -5,7 +5,7 @@ use Rattle.kbm_text.specs.declared.fault.KbmKind.{KbmKind}
 use Rattle.kbm_text.specs.declared.fault.KbmFault.{KbmFault}
 use Rattle.kbm_text.specs.declared.fault.KbmFault.TheVariants as faults
 use Rattle.kbm_text.specs.declared.mapping.Mapping.{Mapping}
-use Rattle.kbm_text.specs.Map.{Map, view}
+use Rattle.kbm_text.specs.Map.{KeyMap}
 use Rattle.kbm_text.specs.Reading.{Fault}
 use Rattle.kbm_text.specs.Spelling.{MapFault}
 
@@ -25,8 +25,8 @@ GivesBefore view (Ok x) rest read = read ≡ Ok (view x, rest)
 GivesBefore view (Err e) rest read = Fails e read
 
 -- What the reader may answer for a text that is this mapping: it, unless memory ran out.
-abbrev pub AnswersMap : Result Mapping KbmFault → Map → Type 0
-AnswersMap (Ok mapping) m = view mapping ≡ m
+abbrev pub AnswersMap : Result Mapping KbmFault → KeyMap → Type 0
+AnswersMap (Ok mapping) m = mapping ≡ m
 AnswersMap (Err (faults.At line kind)) m = ⊥
 AnswersMap (Err faults.Memory) m = Unit {0}
 

@@ -5,5 +5,6 @@ pub mod Reading
 pub mod Answers
 pub mod Ranges
 pub mod Views
+pub mod KeyFields
 pub mod Spelling
 pub mod Worked

@@ -5,7 +5,7 @@ use Rattle.scala_lines.specs.Lines.{Numbered, content}
 use Rattle.kbm_text.specs.declared.fault.KbmKind.{KbmKind}
 use Rattle.kbm_text.specs.declared.fault.KbmKind.TheVariants.{MissingField, SizeRange, KeyRange, DegreeRange}
 use Rattle.kbm_text.specs.Field.{number_in, frequency_of, entry_of}
-use Rattle.kbm_text.specs.Map.{Map}
+use Rattle.kbm_text.specs.Map.{KeyMap}
 
 -- a line and the kind of its fault
 pub record Fault : Type 0 where
@@ -68,7 +68,7 @@ entries_at (suc n) (line ∷ lines) = do
   Ok (entry ∷ entries)
 
 -- the lines that aren't comments: the size, the keys, the frequency, the octave's degree, the entries
-unfoldable pub map_at : ℕ → List Numbered → Result Map Fault
+unfoldable pub map_at : ℕ → List Numbered → Result KeyMap Fault
 map_at missing lines = do
   size ← field_at missing (number_in SizeRange 0 4096) lines
   keys ← keys_at missing size.1
@@ -86,5 +86,5 @@ map_at missing lines = do
   })
 
 -- the mapping of a text, or its first fault
-abbrev pub map_of : List (List ℕ) → Result Map Fault
+abbrev pub map_of : List (List ℕ) → Result KeyMap Fault
 map_of lines = map_at (length lines + 1) (content lines)

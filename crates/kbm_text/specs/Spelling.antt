@@ -9,7 +9,7 @@ use Rattle.kbm_text.specs.declared.fault.KbmKind.{KbmKind}
 use Rattle.kbm_text.specs.declared.fault.KbmKind.TheVariants.{MissingField, BadNumber, SizeRange, KeyRange, BadFrequency, BadEntry, DegreeRange}
 use Rattle.kbm_text.specs.Field.{is_cross, greatest_frequency}
 use Rattle.kbm_text.specs.Reading.{entry_lines}
-use Rattle.kbm_text.specs.Map.{Map}
+use Rattle.kbm_text.specs.Map.{KeyMap}
 
 -- ---- one line
 
@@ -70,7 +70,7 @@ AreEntries (suc n) (line ∷ lines) (entry ∷ entries) = IsEntry line.bytes ent
 
 -- Seven lines: the size, the first, the last, the middle and the reference key, the frequency, the octave's degree.
 -- Then as many entries as the size.
-abbrev pub IsMap : List Numbered → Map → Type 0
+abbrev pub IsMap : List Numbered → KeyMap → Type 0
 IsMap (size ∷ first ∷ last ∷ middle ∷ reference ∷ frequency ∷ octave ∷ lines) m =
     (n : ℕ) × IsIn 0 4096 size.bytes n × IsIn 0 127 first.bytes m.first × IsIn m.first 127 last.bytes m.last
     × IsIn 0 127 middle.bytes m.middle × IsIn 0 127 reference.bytes m.reference × IsFrequency frequency.bytes m.nanohertz
@@ -78,7 +78,7 @@ IsMap (size ∷ first ∷ last ∷ middle ∷ reference ∷ frequency ∷ octave
 IsMap _ m = ⊥
 
 -- The lines that aren't comments are this mapping.
-abbrev pub MapText : List (List ℕ) → Map → Type 0
+abbrev pub MapText : List (List ℕ) → KeyMap → Type 0
 MapText lines m = IsMap (content lines) m
 
 -- The fault of the first entry that has one: those before it are entries.

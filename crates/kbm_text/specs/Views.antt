@@ -1,6 +1,14 @@
--- The keys that the program read.
-use Rattle.kbm_text.specs.declared.reading.KeyFields.{KeyFields}
-use Rattle.kbm_text.specs.Reading.{Keys}
+-- A mapping, without where it lies in memory.
+use Rattle.kbm_text.specs.declared.mapping.Mapping.TheInside.{Inside}
+use Rattle.kbm_text.specs.Map.{KeyMap}
 
-abbrev pub view_keys : KeyFields → Keys
-view_keys k = record { first = k.first; last = k.last; middle = k.middle; reference = k.reference }
+abbrev pub key_map : Inside → KeyMap
+key_map m = record {
+  first = m.first;
+  last = m.last;
+  middle = m.middle;
+  reference = m.reference;
+  nanohertz = m.nanohertz;
+  octave = m.octave;
+  entries = m.entries.items;
+}

@@ -1,6 +1,6 @@
 -- Texts with what they are.
 use Rattle.std.specs.Prelude.{ℕ, List, [], ◌∷◌, ◌++◌, Some, None, codes}
-use Rattle.kbm_text.specs.Map.{Map}
+use Rattle.kbm_text.specs.Map.{KeyMap}
 
 abbrev pub six_fields : List ℕ
 six_fields = codes "12\n0\n127\n60\n69\n440.0\n"
@@ -8,7 +8,7 @@ six_fields = codes "12\n0\n127\n60\n69\n440.0\n"
 abbrev pub twelve : List ℕ
 twelve = six_fields ++ codes "12\n0\nx\n2\n3\n4\n5\n6\n7\n8\n9\n10\n11\n"
 
-abbrev pub twelve_keys : Map
+abbrev pub twelve_keys : KeyMap
 twelve_keys = record {
   first = 0;
   last = 127;
@@ -22,5 +22,5 @@ twelve_keys = record {
 abbrev pub one_degree : List ℕ
 one_degree = codes "1\n0\n127\n60\n60\n261.6255653\n100\n0\n"
 
-abbrev pub one_key : Map
+abbrev pub one_key : KeyMap
 one_key = record { first = 0; last = 127; middle = 60; reference = 60; nanohertz = 261625565300; octave = 100; entries = Some 0 ∷ [] }

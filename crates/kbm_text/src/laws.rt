@@ -1,7 +1,7 @@
 ghost use Rattle.std.specs.Prelude.{◌≡◌, ◌⊎◌, [], ℕ, List, Ok};
 ghost use Rattle.scala_lines.specs.Lines.{lines_of};
 ghost use Rattle.kbm_text.specs.declared.fault.KbmKind.{KbmKind};
-ghost use Rattle.kbm_text.specs.Map.{Map};
+ghost use Rattle.kbm_text.specs.Map.{KeyMap};
 ghost use Rattle.kbm_text.specs.Reading.{map_of, fault};
 ghost use Rattle.kbm_text.specs.Spelling.{MapText, MapFault};
 ghost use Rattle.kbm_text.specs.Worked.{twelve, twelve_keys, six_fields, one_degree, one_key};
@@ -10,9 +10,9 @@ use scala_lines::laws::{fronts, numbers};
 
 /// Each text has one mapping or one first fault, and never both.
 pub fn one_answer()
-    ensures either { (lines : List (List ℕ)) → ((m : Map) × MapText lines m) ⊎ ((line : ℕ) × ((kind : KbmKind) × MapFault lines line kind)) }
-    ensures never_both { (lines : List (List ℕ)) (m : Map) (line : ℕ) (kind : KbmKind) → MapText lines m → MapFault lines line kind → ⊥ }
-    ensures one_map { (lines : List (List ℕ)) (m n : Map) → MapText lines m → MapText lines n → m ≡ n }
+    ensures either { (lines : List (List ℕ)) → ((m : KeyMap) × MapText lines m) ⊎ ((line : ℕ) × ((kind : KbmKind) × MapFault lines line kind)) }
+    ensures never_both { (lines : List (List ℕ)) (m : KeyMap) (line : ℕ) (kind : KbmKind) → MapText lines m → MapFault lines line kind → ⊥ }
+    ensures one_map { (lines : List (List ℕ)) (m n : KeyMap) → MapText lines m → MapText lines n → m ≡ n }
     ensures one_fault { (lines : List (List ℕ)) (a b : ℕ) (j k : KbmKind) → MapFault lines a j → MapFault lines b k → (a ≡ b) × (j ≡ k) }
 {
     fronts();

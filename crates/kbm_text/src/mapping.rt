@@ -1,7 +1,5 @@
-ghost use Rattle.std.specs.Prelude.{◌≤◌, vec_len};
-ghost use Rattle.kbm_text.specs.Ranges.{AreDegrees};
-
 use std::alloc::Global;
+use std::marker::Model;
 
 /// A keyboard mapping: from the first to the last key, counted from the middle key, each entry is a
 /// scale degree or none; after the last entry the next octave begins, which is so many degrees higher.
@@ -17,24 +15,28 @@ pub struct Mapping {
     pub nanohertz: u64,
     pub octave: u16,
     pub entries: Vec<Option<u16>>,
-    pub ghost in_order: { first ≤ last },
-    pub ghost last_key: { last ≤ 127 },
-    pub ghost middle_key: { middle ≤ 127 },
-    pub ghost reference_key: { reference ≤ 127 },
-    pub ghost sounds: { 1 ≤ nanohertz },
-    pub ghost frequency: { nanohertz ≤ 1000000000000000 },
-    pub ghost octave_degree: { octave ≤ 16383 },
-    pub ghost few: { vec_len entries ≤ 4096 },
-    pub ghost degrees: { AreDegrees entries.items },
+}
+
+impl Model for Mapping {
+    ghost use Rattle.kbm_text.specs.Map.{KeyMap};
+
+    ghost Value = { KeyMap };
+
+    ghost use Rattle.kbm_text.specs.Views.{key_map};
+    ghost use Rattle.kbm_text.specs.Ranges.{IsInRange};
+
+    ghost view = { key_map };
+
+    ghost invariant = { λ m. IsInRange (key_map m) };
 }
 
 impl Mapping {
     ghost use Rattle.std.specs.Prelude.{◌≡◌};
-    ghost use Rattle.kbm_text.specs.Map.{view, standard, a440};
+    ghost use Rattle.kbm_text.specs.Map.{standard, a440};
 
     /// Each key the next degree, from key 60 at 261.6255653 Hz.
     pub fn standard(alloc: Global) -> Mapping
-        ensures { view result ≡ standard }
+        ensures { result ≡ standard }
     {
         Mapping {
             first: 0,
@@ -49,7 +51,7 @@ impl Mapping {
 
     /// Each key the next degree, from key 69 at 440 Hz.
     pub fn a440(alloc: Global) -> Mapping
-        ensures { view result ≡ a440 }
+        ensures { result ≡ a440 }
     {
         Mapping {
             first: 0,

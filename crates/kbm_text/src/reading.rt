@@ -6,8 +6,8 @@ ghost use Rattle.kbm_text.specs.Reading.{Keys, field_at, keys_at, entry_lines, e
 ghost use Rattle.kbm_text.specs.Answers.{Gives, GivesBefore, AnswersMap, AnswersFault, IsFaultOf};
 ghost use Rattle.kbm_text.specs.Spelling.{MapText, MapFault};
 ghost use Rattle.kbm_text.specs.declared.fault.KbmKind.{KbmKind};
-ghost use Rattle.kbm_text.specs.Map.{Map, view as map_view};
-ghost use Rattle.kbm_text.specs.Views.{view_keys};
+ghost use Rattle.kbm_text.specs.Map.{KeyMap};
+ghost use Rattle.kbm_text.specs.KeyFields.{view_keys};
 ghost use Rattle.kbm_text.specs.declared.fault.KbmFault.TheVariants as faults;
 ghost use Rattle.kbm_text.specs.declared.fault.KbmKind.TheVariants.{MissingField, SizeRange, KeyRange, DegreeRange};
 
@@ -154,7 +154,7 @@ fn entries(alloc: Global, lines: &mut Lines<'_>, size: u32) -> Result<Vec<Option
 #[tactic(auto, unfolding(crate::specs::Reading::map_at))]
 fn mapping(alloc: Global, text: &[u8]) -> Result<Mapping, KbmFault>
     requires { length text.now ≤ 262144 }
-    ensures { Gives map_view result (map_of (lines_of text.now)) }
+    ensures { Gives (λ m. m) result (map_of (lines_of text.now)) }
 {
     fronts();
     numbers();
@@ -181,15 +181,15 @@ fn mapping(alloc: Global, text: &[u8]) -> Result<Mapping, KbmFault>
 pub fn read_kbm(alloc: Global, text: &[u8]) -> Result<Mapping, KbmFault>
     requires { length text.now ≤ 262144 }
     // What is read is a mapping text of this mapping.
-    ensures found { IfOk result (λ mapping. MapText (lines_of text.now) (map_view mapping)) }
+    ensures found { IfOk result (MapText (lines_of text.now)) }
     // A mapping text is read, unless memory runs out.
-    ensures only { (m : Map) → MapText (lines_of text.now) m → AnswersMap result m }
+    ensures only { (m : KeyMap) → MapText (lines_of text.now) m → AnswersMap result m }
     // What is answered is the first fault.
     ensures fault { IfErr result (λ e. IsFaultOf e (lines_of text.now)) }
     // A text with a fault is refused with it, unless memory runs out.
     ensures only_fault { (line : ℕ) (kind : KbmKind) → MapFault (lines_of text.now) line kind → AnswersFault result line kind }
     // Reading from left to right gives the same.
-    ensures exact { Gives map_view result (map_of (lines_of text.now)) }
+    ensures exact { Gives (λ m. m) result (map_of (lines_of text.now)) }
 {
     fronts();
     numbers();

@@ -3,7 +3,9 @@ use Rattle.std.proofs.Common.{◌≡◌, ℕ, ◌+◌, ◌*◌, ◌<◌, ◌≤�
 use Rattle.std.specs.Prelude.{nat_eq, nat_le, if◌then◌else◌, ◌&&◌}
 use Rattle.std.specs.List.{AllByRecursion}
 use Rattle.mt_base.specs.Pitch.{Pitch, added, subtracted, exactly}
-use Rattle.retune_model.specs.Scale.{Step, Mapping, IsOctaves, repeated, size_of, floor_div, floor_rem, from_middle, pitch_of_degree, terms_of_degree, ratios_of_degree, pitch_of_entry, terms_of_entry, ratios_of_entry, above_middle, terms_above_middle, ratios_above_middle, reference_pitch, is_mapped_range, scale_pitch, term_count, ratios_of_key}
+use Rattle.scl_text.specs.declared.entry.Entry.{Entry}
+use Rattle.kbm_text.specs.Map.{KeyMap}
+use Rattle.retune_model.specs.Scale.{IsOctaves, repeated, size_of, floor_div, floor_rem, from_middle, pitch_of_degree, terms_of_degree, ratios_of_degree, pitch_of_entry, terms_of_entry, ratios_of_entry, above_middle, terms_above_middle, ratios_above_middle, reference_pitch, is_mapped_range, scale_pitch, term_count, ratios_of_key}
 use Rattle.key_pitch.specs.declared.sum.Sum.{Sum}
 use Rattle.key_pitch.specs.Views.{bounds_of}
 use Rattle.key_pitch.specs.Sums.{Sums, SumsIf}
@@ -18,7 +20,7 @@ no_pitch t r None h = refl
 no_pitch t r (Some p) h = absurd h
 
 -- an entry of the map that is a degree
-pub entry_sums : (scale : List Step) (m : Mapping) (j turns d g : ℤ) (place : ℕ) (e : Option ℕ) (s : Sum) → Sums (added (repeated turns (pitch_of_degree scale d)) (pitch_of_degree scale g)) (size_of turns * terms_of_degree scale d + terms_of_degree scale g) ((if nat_eq (size_of turns) 0 then [] else ratios_of_degree scale d) ++ ratios_of_degree scale g) s → turns ≡ j → d ≡ pos m.octave → g ≡ pos place → e ≡ Some place → SumsIf (terms_of_entry scale m j e) (ratios_of_entry scale m j e) (pitch_of_entry scale m j e) (Some s)
+pub entry_sums : (scale : List Entry) (m : KeyMap) (j turns d g : ℤ) (place : ℕ) (e : Option ℕ) (s : Sum) → Sums (added (repeated turns (pitch_of_degree scale d)) (pitch_of_degree scale g)) (size_of turns * terms_of_degree scale d + terms_of_degree scale g) ((if nat_eq (size_of turns) 0 then [] else ratios_of_degree scale d) ++ ratios_of_degree scale g) s → turns ≡ j → d ≡ pos m.octave → g ≡ pos place → e ≡ Some place → SumsIf (terms_of_entry scale m j e) (ratios_of_entry scale m j e) (pitch_of_entry scale m j e) (Some s)
 entry_sums scale m j turns d g place e s h same octave degree is =
     let at_j = subst (λ z. Sums (added (repeated z (pitch_of_degree scale d)) (pitch_of_degree scale g)) (size_of z * terms_of_degree scale d + terms_of_degree scale g) ((if nat_eq (size_of z) 0 then [] else ratios_of_degree scale d) ++ ratios_of_degree scale g) s) same h in
     let at_octave = subst (λ z. Sums (added (repeated j (pitch_of_degree scale z)) (pitch_of_degree scale g)) (size_of j * terms_of_degree scale z + terms_of_degree scale g) ((if nat_eq (size_of j) 0 then [] else ratios_of_degree scale z) ++ ratios_of_degree scale g) s) octave at_j in
@@ -26,19 +28,19 @@ entry_sums scale m j turns d g place e s h same octave degree is =
     subst (λ o. SumsIf (terms_of_entry scale m j o) (ratios_of_entry scale m j o) (pitch_of_entry scale m j o) (Some s)) (sym is) at_degree
 
 -- a map without entries: the scale itself
-pub unmapped_sums : (scale : List Step) (m : Mapping) (k : ℕ) (d : ℤ) (s : Sum) → length m.entries ≡ 0 → d ≡ from_middle m k → Sums (pitch_of_degree scale d) (terms_of_degree scale d) (ratios_of_degree scale d) s → SumsIf (terms_above_middle scale m k) (ratios_above_middle scale m k) (above_middle scale m k) (Some s)
+pub unmapped_sums : (scale : List Entry) (m : KeyMap) (k : ℕ) (d : ℤ) (s : Sum) → length m.entries ≡ 0 → d ≡ from_middle m k → Sums (pitch_of_degree scale d) (terms_of_degree scale d) (ratios_of_degree scale d) s → SumsIf (terms_above_middle scale m k) (ratios_above_middle scale m k) (above_middle scale m k) (Some s)
 unmapped_sums scale m k d s none is h =
     let e : nat_eq (length m.entries) 0 ≡ true = ap (λ n. nat_eq n 0) none in
     rw e (subst (λ z. Sums (pitch_of_degree scale z) (terms_of_degree scale z) (ratios_of_degree scale z) s) is h)
 
 -- an entry of the map
-abbrev pub IsEntrySum : List Step → Mapping → ℤ → Option ℕ → Option Sum → Type 0
+abbrev pub IsEntrySum : List Entry → KeyMap → ℤ → Option ℕ → Option Sum → Type 0
 IsEntrySum scale m j e s = SumsIf (terms_of_entry scale m j e) (ratios_of_entry scale m j e) (pitch_of_entry scale m j e) s
 
 nat_eq_some : (n : ℕ) → 1 ≤ n → nat_eq n 0 ≡ false
 nat_eq_some n h = grind arith
 
-pub mapped_sums : (scale : List Step) (m : Mapping) (k n : ℕ) (d j : ℤ) (i : ℕ) (e : Option ℕ) (s : Option Sum) → IsEntrySum scale m j e s → j ≡ floor_div d n → i ≡ floor_rem d n → n ≡ length m.entries → 1 ≤ n → d ≡ from_middle m k → get_or m.entries i None ≡ e → SumsIf (terms_above_middle scale m k) (ratios_above_middle scale m k) (above_middle scale m k) s
+pub mapped_sums : (scale : List Entry) (m : KeyMap) (k n : ℕ) (d j : ℤ) (i : ℕ) (e : Option ℕ) (s : Option Sum) → IsEntrySum scale m j e s → j ≡ floor_div d n → i ≡ floor_rem d n → n ≡ length m.entries → 1 ≤ n → d ≡ from_middle m k → get_or m.entries i None ≡ e → SumsIf (terms_above_middle scale m k) (ratios_above_middle scale m k) (above_middle scale m k) s
 mapped_sums scale m k n d j i e s h quotient rest size some is there =
     let b : nat_eq (length m.entries) 0 ≡ false = ap (λ x. nat_eq x 0) (sym size) ∙ nat_eq_some n some in
     let j_is : j ≡ floor_div (from_middle m k) (length m.entries) = quotient ∙ ap (λ z. floor_div z n) is ∙ ap (floor_div (from_middle m k)) size in
@@ -59,7 +61,7 @@ regrouped P f u r all =
     (first.0, both P u r (all_first P u (r ++ f ∷ []) all) (all_first P r (f ∷ []) rest))
 
 -- a key from the first to the last
-pub key_sums : (scale : List Step) (m : Mapping) (k : ℕ) (u r : Pitch) (s : Sum) → is_mapped_range m k ≡ true → above_middle scale m k ≡ Some u → above_middle scale m m.reference ≡ Some r → Sums (subtracted (added (reference_pitch m) u) r) ((1 + terms_above_middle scale m k) + terms_above_middle scale m m.reference) (((m.nanohertz, 440000000000) ∷ [] ++ ratios_above_middle scale m k) ++ ratios_above_middle scale m m.reference) s → SumsIf (term_count scale m k) (ratios_of_key scale m k) (scale_pitch scale m k) (Some s)
+pub key_sums : (scale : List Entry) (m : KeyMap) (k : ℕ) (u r : Pitch) (s : Sum) → is_mapped_range m k ≡ true → above_middle scale m k ≡ Some u → above_middle scale m m.reference ≡ Some r → Sums (subtracted (added (reference_pitch m) u) r) ((1 + terms_above_middle scale m k) + terms_above_middle scale m m.reference) (((m.nanohertz, 440000000000) ∷ [] ++ ratios_above_middle scale m k) ++ ratios_above_middle scale m m.reference) s → SumsIf (term_count scale m k) (ratios_of_key scale m k) (scale_pitch scale m k) (Some s)
 unfolding scale_pitch term_count ratios_of_key
 key_sums scale m k u r s in_range up ref h =
     let t : (1 + terms_above_middle scale m k) + terms_above_middle scale m m.reference ≡ terms_above_middle scale m k + terms_above_middle scale m m.reference + 1 = omega arith in
@@ -71,12 +73,12 @@ key_sums scale m k u r s in_range up ref h =
     rw (in_range, up, ref) result
 
 -- a key that the map leaves out
-pub key_left_out : (scale : List Step) (m : Mapping) (k : ℕ) → is_mapped_range m k ≡ true → above_middle scale m k ≡ None → SumsIf (term_count scale m k) (ratios_of_key scale m k) (scale_pitch scale m k) None
+pub key_left_out : (scale : List Entry) (m : KeyMap) (k : ℕ) → is_mapped_range m k ≡ true → above_middle scale m k ≡ None → SumsIf (term_count scale m k) (ratios_of_key scale m k) (scale_pitch scale m k) None
 unfolding scale_pitch term_count ratios_of_key
 key_left_out scale m k in_range up = rw (in_range, up) tt
 
 -- a key outside the first and the last
-pub key_outside : (scale : List Step) (m : Mapping) (k : ℕ) (s : Sum) → is_mapped_range m k ≡ false → Sums (exactly (pos (3200000000000 * k))) 0 [] s → SumsIf (term_count scale m k) (ratios_of_key scale m k) (scale_pitch scale m k) (Some s)
+pub key_outside : (scale : List Entry) (m : KeyMap) (k : ℕ) (s : Sum) → is_mapped_range m k ≡ false → Sums (exactly (pos (3200000000000 * k))) 0 [] s → SumsIf (term_count scale m k) (ratios_of_key scale m k) (scale_pitch scale m k) (Some s)
 unfolding scale_pitch term_count ratios_of_key
 key_outside scale m k s outside h = rw outside h
 
@@ -84,18 +86,18 @@ last_false : (b : Bool) → (b && false) ≡ false
 last_false true = refl
 last_false false = refl
 
-pub inside : (m : Mapping) (k : ℕ) → m.first ≤ k → k ≤ m.last → is_mapped_range m k ≡ true
+pub inside : (m : KeyMap) (k : ℕ) → m.first ≤ k → k ≤ m.last → is_mapped_range m k ≡ true
 inside m k low high =
     let a : nat_le m.first k ≡ true = grind arith in
     let b : nat_le k m.last ≡ true = grind arith in
     rw (a, b) refl
 
-pub outside_low : (m : Mapping) (k : ℕ) → k < m.first → is_mapped_range m k ≡ false
+pub outside_low : (m : KeyMap) (k : ℕ) → k < m.first → is_mapped_range m k ≡ false
 outside_low m k low =
     let a : nat_le m.first k ≡ false = grind arith in
     rw a refl
 
-pub outside_high : (m : Mapping) (k : ℕ) → m.last < k → is_mapped_range m k ≡ false
+pub outside_high : (m : KeyMap) (k : ℕ) → m.last < k → is_mapped_range m k ≡ false
 outside_high m k high =
     let b : nat_le k m.last ≡ false = grind arith in
     rw b (last_false (nat_le m.first k))

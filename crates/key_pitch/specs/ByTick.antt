@@ -4,7 +4,8 @@ use Rattle.key_pitch.specs.declared.table.KeyTable.{KeyTable}
 use Rattle.key_pitch.specs.declared.by_tick.TablesByTick.{TablesByTick}
 use Rattle.key_pitch.specs.InForce.{in_force}
 use Rattle.key_pitch.specs.Aims.{table_of}
-use Rattle.retune_model.specs.Scale.{Step, Mapping}
+use Rattle.scl_text.specs.declared.entry.Entry.{Entry}
+use Rattle.kbm_text.specs.Map.{KeyMap}
 use Rattle.retune_model.specs.Table.{Bounds, Scaling, IsTable, AreFewTerms, one_scale}
 
 -- each table with the tick from which it holds
@@ -20,11 +21,11 @@ abbrev pub by_entries : List (ℕ × KeyTable) → ℕ → ℕ → Option Bounds
 by_entries entries key onset = table_if (in_force onset entries) key
 
 -- the scale in force at each tick, where each scale stands with the tick from which it holds
-abbrev pub scales_in_force : List (ℕ × List Step) → Mapping → Scaling
+abbrev pub scales_in_force : List (ℕ × List Entry) → KeyMap → Scaling
 scales_in_force scales m = record { scale_at = λ tick. unwrap_or (in_force tick scales) []; mapping = m }
 
 -- the tables of these scales, each from the tick of its scale on
-abbrev pub AreTablesOf : List (ℕ × List Step) → Mapping → List (ℕ × KeyTable) → Type 0
+abbrev pub AreTablesOf : List (ℕ × List Entry) → KeyMap → List (ℕ × KeyTable) → Type 0
 AreTablesOf [] m [] = Unit {0}
 AreTablesOf (s ∷ scales) m (t ∷ tables) = (s.0 ≡ t.0) × IsTable (one_scale s.1 m) (λ key onset. table_of t.1 key) × AreFewTerms (one_scale s.1 m) × AreTablesOf scales m tables
 AreTablesOf _ m _ = ⊥

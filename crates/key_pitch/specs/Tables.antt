@@ -1,7 +1,9 @@
 -- What a table of brackets keeps, and the targets that it gives (this project's own).
 use Rattle.std.specs.Prelude.{◌≤◌, ℕ, ℤ, pos, neg_ℤ, ◌^◌, ◌-ℤ◌, ◌≤ℤ◌, List, get_or, Option, Some, None}
 use Rattle.mt_base.specs.declared.Bracket.{Bracket}
-use Rattle.retune_model.specs.Scale.{Step, Mapping, term_count, ratios_of_key, scale_pitch}
+use Rattle.scl_text.specs.declared.entry.Entry.{Entry}
+use Rattle.kbm_text.specs.Map.{KeyMap}
+use Rattle.retune_model.specs.Scale.{term_count, ratios_of_key, scale_pitch}
 use Rattle.retune_model.specs.Table.{Bound}
 use Rattle.key_pitch.specs.Views.{bounds_if}
 
@@ -24,7 +26,7 @@ pub record AreNarrow (pitches : List (Option Bracket)) : Type 0 where
   pub each : (k : ℕ) → IsNarrow (get_or pitches k None)
 
 -- the bounds of a key's pitch, of few enough ratios
-pub record IsKeyBound (scale : List Step) (m : Mapping) (key : ℕ) (p : Option Bracket) : Type 0 where
+pub record IsKeyBound (scale : List Entry) (m : KeyMap) (key : ℕ) (p : Option Bracket) : Type 0 where
   pub bound : Bound (term_count scale m key) (ratios_of_key scale m key) (scale_pitch scale m key) (bounds_if p)
   pub few : term_count scale m key ≤ 1700
   pub narrow : IsNarrow p

@@ -5,7 +5,8 @@ ghost use Rattle.std.specs.List.{AllByRecursion};
 ghost use Rattle.key_pitch.specs.declared.table.KeyTable.{KeyTable};
 ghost use Rattle.key_pitch.specs.InForce.{IsTimeline, ticks_of, in_force, IsLast};
 ghost use Rattle.key_pitch.specs.ByTick.{by_entries, scales_in_force, AreTablesOf};
-ghost use Rattle.retune_model.specs.Scale.{Step, Mapping};
+ghost use Rattle.scl_text.specs.declared.entry.Entry.{Entry};
+ghost use Rattle.kbm_text.specs.Map.{KeyMap};
 ghost use Rattle.retune_model.specs.Table.{IsTable, AreFewTerms};
 
 /// The table in force at a tick is the last one of its list whose tick isn't after it; where the ticks rise,
@@ -19,8 +20,8 @@ pub fn in_force_laws()
     ensures always { (tick : ℕ) (entries : List (ℕ × KeyTable)) → IsTimeline (ticks_of entries) → in_force tick entries ≢ None }
     ensures one { IsTimeline (0 ∷ []) }
     ensures further { (ticks : List ℕ) (from : ℕ) → IsTimeline ticks → slice_index ticks (length ticks - 1) < from → IsTimeline (ticks ++ from ∷ []) }
-    ensures table { (scales : List (ℕ × List Step)) (m : Mapping) (entries : List (ℕ × KeyTable)) → AreTablesOf scales m entries → IsTimeline (ticks_of entries) → IsTable (scales_in_force scales m) (by_entries entries) }
-    ensures few { (scales : List (ℕ × List Step)) (m : Mapping) (entries : List (ℕ × KeyTable)) → AreTablesOf scales m entries → IsTimeline (ticks_of entries) → AreFewTerms (scales_in_force scales m) }
+    ensures table { (scales : List (ℕ × List Entry)) (m : KeyMap) (entries : List (ℕ × KeyTable)) → AreTablesOf scales m entries → IsTimeline (ticks_of entries) → IsTable (scales_in_force scales m) (by_entries entries) }
+    ensures few { (scales : List (ℕ × List Entry)) (m : KeyMap) (entries : List (ℕ × KeyTable)) → AreTablesOf scales m entries → IsTimeline (ticks_of entries) → AreFewTerms (scales_in_force scales m) }
 {}
 
 /// Three values, from ticks 0, 480 and 960 on; and lists that have nothing yet.

@@ -6,7 +6,9 @@ use Rattle.mt_base.specs.declared.event.Msg.TheVariants.{NoteOn, NoteOff, Contro
 use Rattle.mt_base.specs.Midi.{MidiEvent, MetaOf}
 use Rattle.midi_model.specs.Music.{quiet}
 use Rattle.midi_model.specs.Examples.{at, all_at, sysex, general_midi_on, registered}
-use Rattle.retune_model.specs.Scale.{Step, Ratio, Cents, Mapping}
+use Rattle.scl_text.specs.declared.entry.Entry.{Entry}
+use Rattle.scl_text.specs.declared.entry.Entry.TheVariants.{Ratio, Cents}
+use Rattle.kbm_text.specs.Map.{KeyMap}
 use Rattle.retune_model.specs.Table.{Bounds, Scaling, one_scale}
 use Rattle.retune_model.specs.Options.{Options, Route, ByBend, ByMpe}
 use Rattle.retune_model.specs.Faults.{Targets, Kind, first_fault}
@@ -16,18 +18,18 @@ use Rattle.retune_model.specs.BendOutput.{bend_output}
 
 -- ---- scales and mappings
 
-abbrev pub two_steps : List Step
+abbrev pub two_steps : List Entry
 two_steps = Cents (pos 50000000000) ∷ Cents (pos 1200000000000) ∷ []
 
-abbrev pub comma : List Step
+abbrev pub comma : List Entry
 comma = Ratio 81 80 ∷ []
 
 -- a hundred commas each key up, from key 60
-abbrev pub comma_mapping : Mapping
+abbrev pub comma_mapping : KeyMap
 comma_mapping = record { first = 0; last = 127; middle = 60; reference = 60; nanohertz = 261625565300; octave = 100; entries = Some 0 ∷ [] }
 
 -- twelve keys of which the second is left out
-abbrev pub gapped_mapping : ℕ → Mapping
+abbrev pub gapped_mapping : ℕ → KeyMap
 gapped_mapping reference = record {
   first = 0;
   last = 127;
@@ -39,7 +41,7 @@ gapped_mapping reference = record {
 }
 
 -- no key is in the mapped range, so that every key is in equal temperament
-abbrev pub no_keys : Mapping
+abbrev pub no_keys : KeyMap
 no_keys = record { first = 200; last = 200; middle = 60; reference = 60; nanohertz = 440000000000; octave = 0; entries = [] }
 
 abbrev pub even : Scaling

@@ -2,16 +2,18 @@
 use Rattle.std.specs.Prelude.{◌≡◌, ◌≤◌, ℕ, ◌*◌, ℤ, pos, negsuc, ◌+ℤ◌, ◌-ℤ◌, ◌*ℤ◌, ◌≤ℤ◌, List, Option, Some, None, nat_le, if◌then◌else◌}
 use Rattle.std.specs.Int.{int_div_euclid}
 use Rattle.std.specs.List.{AllByRecursion}
+use Rattle.scl_text.specs.declared.entry.Entry.{Entry}
+use Rattle.kbm_text.specs.Map.{KeyMap}
 use Rattle.mt_base.specs.Pitch.{Pitch, AtLeast, AtMost}
-use Rattle.retune_model.specs.Scale.{Step, Mapping, scale_pitch, term_count, ratios_of_key, IsOctaves}
+use Rattle.retune_model.specs.Scale.{scale_pitch, term_count, ratios_of_key, IsOctaves}
 
 -- The scale in force at each tick, and the mapping. A note has the pitch of the scale in force when it begins.
 pub record Scaling : Type 0 where
-  pub scale_at : ℕ → List Step
-  pub mapping : Mapping
+  pub scale_at : ℕ → List Entry
+  pub mapping : KeyMap
 
 -- one scale throughout
-abbrev pub one_scale : List Step → Mapping → Scaling
+abbrev pub one_scale : List Entry → KeyMap → Scaling
 one_scale scale mapping = record { scale_at = λ t. scale; mapping = mapping }
 
 -- the scale pitch of a key for a note that begins at this tick

@@ -6,7 +6,8 @@ ghost use Rattle.mt_base.specs.Midi.{MetaOf};
 ghost use Rattle.midi_model.specs.Music.{quiet, play, channel_at};
 ghost use Rattle.midi_model.specs.TuningBytes.{select_of};
 ghost use Rattle.midi_model.specs.Examples.{at, all_at, sysex, general_midi_on, registered, two_channels, dump};
-ghost use Rattle.retune_model.specs.Scale.{scale_pitch, term_count, a440_mapping};
+ghost use Rattle.kbm_text.specs.Map.{a440};
+ghost use Rattle.retune_model.specs.Scale.{scale_pitch, term_count};
 ghost use Rattle.retune_model.specs.Table.{nearest_tuning, nearest_key, nearest_steps};
 ghost use Rattle.retune_model.specs.Options.{ByDump, ByLive, ByBend, ByMpe};
 ghost use Rattle.retune_model.specs.Source.{bend_in_steps};
@@ -24,12 +25,12 @@ use mt_base::laws::exact;
 
 /// Scale pitches and term counts, by example: a step of 50 cents from key 69, a map with a key left out, and a key 6,000 commas away.
 pub fn scale_examples()
-    ensures half_a_semitone { scale_pitch two_steps a440_mapping 70 ≡ Some (record { a = 440000000000; b = 440000000000; c = pos (6950 * 32000000000) }) }
+    ensures half_a_semitone { scale_pitch two_steps a440 70 ≡ Some (record { a = 440000000000; b = 440000000000; c = pos (6950 * 32000000000) }) }
     ensures left_out { scale_pitch two_steps (gapped_mapping 69) 61 ≡ None }
     ensures reference_left_out { scale_pitch two_steps (gapped_mapping 61) 60 ≡ None }
     ensures terms { term_count comma comma_mapping 0 ≡ 6001 }
     ensures terms_near { term_count comma comma_mapping 60 ≡ 1 }
-    ensures no_terms { term_count two_steps a440_mapping 70 ≡ 1 }
+    ensures no_terms { term_count two_steps a440 70 ≡ 1 }
 {}
 
 /// Targets, by example: of a pitch in the middle between two keys, and of a just third.

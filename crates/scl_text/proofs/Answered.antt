@@ -16,14 +16,14 @@ abbrev Read : Type 0
 Read = Result (List Entry) Fault
 
 abbrev GivesScale : Result Scale SclFault → List (List ℕ) → Type 0
-GivesScale r lines = Gives (λ (s : Scale). s.entries.items) r (scale_of lines)
+GivesScale r lines = Gives (λ (s : Scale). s) r (scale_of lines)
 
-pub found : Fronts → Numbers → (r : Result Scale SclFault) (lines : List (List ℕ)) → GivesScale r lines → IfOk r (λ s. ScaleText lines s.entries.items)
-found fronts numbers (Ok s) lines g = read_is_scale fronts numbers lines s.entries.items g
+pub found : Fronts → Numbers → (r : Result Scale SclFault) (lines : List (List ℕ)) → GivesScale r lines → IfOk r (ScaleText lines)
+found fronts numbers (Ok s) lines g = read_is_scale fronts numbers lines s g
 found fronts numbers (Err e) lines g = tt
 
 pub only : Fronts → Numbers → (r : Result Scale SclFault) (lines : List (List ℕ)) → GivesScale r lines → (entries : List Entry) → ScaleText lines entries → AnswersScale r entries
-only fronts numbers (Ok s) lines g entries is = let h : (let r : Read = Ok s.entries.items in r) ≡ Ok entries = sym g ∙ scale_is_read fronts numbers lines entries is in cc
+only fronts numbers (Ok s) lines g entries is = let h : (let r : Read = Ok s in r) ≡ Ok entries = sym g ∙ scale_is_read fronts numbers lines entries is in cc
 only fronts numbers (Err (faults.At line kind)) lines g entries is = absurd (let h : (let r : Read = Err (record { line = line; kind = kind }) in r) ≡ Ok entries = sym g ∙ scale_is_read fronts numbers lines entries is in cc)
 only fronts numbers (Err faults.Memory) lines g entries is = tt
 
@@ -38,7 +38,7 @@ same_fault a b j k e =
     (ap (λ (f : Fault). f.line) h, ap (λ (f : Fault). f.kind) h)
 
 pub only_fault : Fronts → Numbers → (r : Result Scale SclFault) (lines : List (List ℕ)) → GivesScale r lines → (line : ℕ) (kind : SclKind) → ScaleFault lines line kind → AnswersFault r line kind
-only_fault fronts numbers (Ok s) lines g line kind is = absurd (let h : (let r : Read = Ok s.entries.items in r) ≡ Err (record { line = line; kind = kind }) = sym g ∙ fault_is_read fronts numbers lines line kind is in cc)
+only_fault fronts numbers (Ok s) lines g line kind is = absurd (let h : (let r : Read = Ok s in r) ≡ Err (record { line = line; kind = kind }) = sym g ∙ fault_is_read fronts numbers lines line kind is in cc)
 only_fault fronts numbers (Err (faults.At at which)) lines g line kind is = same_fault at line which kind (sym g ∙ fault_is_read fronts numbers lines line kind is)
 only_fault fronts numbers (Err faults.Memory) lines g line kind is = tt
 

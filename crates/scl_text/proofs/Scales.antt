@@ -1,5 +1,5 @@
 -- A text that is read is a scale text, and a scale text is read; each text has a scale or a first fault.
-use Rattle.std.proofs.Common.{◌≡◌, ℕ, zero, suc, ◌+◌, ◌<◌, ◌≤◌, List, [], ◌∷◌, ◌++◌, length, slice_get, Some, Result, Ok, Err, refl, sym, ap, subst, inl, inr, arith}
+use Rattle.std.proofs.Common.{◌≡◌, ℕ, zero, suc, ◌+◌, ◌<◌, List, [], ◌∷◌, ◌++◌, length, slice_get, Some, Result, Ok, Err, refl, sym, ap, subst, inl, inr, arith}
 use Rattle.scala_lines.specs.Laws.{DecimalsAreLow}
 use Rattle.scala_lines.specs.Lines.{Numbered, content}
 use Rattle.scl_text.specs.declared.entry.Entry.{Entry}
@@ -9,7 +9,7 @@ use Rattle.scl_text.specs.declared.fault.SclKind.TheVariants.{NoDescription, NoC
 use Rattle.scl_text.specs.Reading.{Fault, ◌>>=◌, fault, on_line, count_of, entries_at, scale_at, scale_of}
 use Rattle.scl_text.specs.Pitch.{pitch_of}
 use Rattle.scl_text.specs.Spelling.{IsPitch, ArePitches, BeginsWith, IsScale, ScaleText, NoPitch, StopsWith, IsFault, ScaleFault}
-use Rattle.scl_text.specs.Ranges.{IsEntry, AreEntries}
+use Rattle.scl_text.specs.Ranges.{IsEntry, IsInRange}
 use Rattle.scl_text.proofs.Premises.{Fronts, Numbers}
 use Rattle.scl_text.proofs.Results.{bind_ok, bind_err, on_line_ok, on_line_err}
 use Rattle.scl_text.proofs.Values.{pitch_takes, pitch_again, pitch_fault_takes, pitch_fault_again, pitch_in_range}
@@ -141,16 +141,15 @@ each_in_range low_decimals (l ∷ ls) [] a k entry e = absurd a
 each_in_range low_decimals (l ∷ ls) (x ∷ xs) a zero entry e = subst IsEntry (let h : x ≡ entry = cc in h) (pitch_in_range low_decimals l.bytes x a.0)
 each_in_range low_decimals (l ∷ ls) (x ∷ xs) a (suc k) entry e = each_in_range low_decimals ls xs a.1 k entry e
 
-in_range : DecimalsAreLow → (pitches : List Numbered) (entries : List Entry) → ArePitches pitches entries → AreEntries entries
-in_range low_decimals pitches entries a = record {
-  ratios = λ k num den e. each_in_range low_decimals pitches entries a k (Ratio num den) e;
-  cents = λ k n e. each_in_range low_decimals pitches entries a k (Cents n) e;
-}
-
-kept_by : DecimalsAreLow → (lines : List Numbered) (entries : List Entry) → IsScale lines entries → (1 ≤ length entries) × (length entries ≤ 4096) × AreEntries entries
+kept_by : DecimalsAreLow → (lines : List Numbered) (entries : List Entry) → IsScale lines entries → IsInRange entries
 kept_by low_decimals [] entries s = absurd s
 kept_by low_decimals (d ∷ []) entries s = absurd s
-kept_by low_decimals (d ∷ c ∷ lines) entries (n, (digits, has, is, some, few), (pitches, more, e, a, l)) = (omega (arith, some, l), omega (arith, few, l), in_range low_decimals pitches entries a)
+kept_by low_decimals (d ∷ c ∷ lines) entries (n, (digits, has, is, some, few), (pitches, more, e, a, l)) = record {
+  some = omega (arith, some, l);
+  few = omega (arith, few, l);
+  ratios = λ k num den at. each_in_range low_decimals pitches entries a k (Ratio num den) at;
+  cents = λ k n at. each_in_range low_decimals pitches entries a k (Cents n) at;
+}
 
-pub kept : Fronts → Numbers → DecimalsAreLow → (missing : ℕ) (lines : List Numbered) (entries : List Entry) → scale_at missing lines ≡ Ok entries → (1 ≤ length entries) × (length entries ≤ 4096) × AreEntries entries
+pub kept : Fronts → Numbers → DecimalsAreLow → (missing : ℕ) (lines : List Numbered) (entries : List Entry) → scale_at missing lines ≡ Ok entries → IsInRange entries
 kept fronts numbers low_decimals missing lines entries e = kept_by low_decimals lines entries (scale_takes fronts numbers missing lines entries e)

@@ -20,7 +20,7 @@ Gives view (Err e) read = Fails e read
 
 -- What the reader may answer for a text with these entries: them, unless memory ran out.
 abbrev pub AnswersScale : Result Scale SclFault → List Entry → Type 0
-AnswersScale (Ok scale) entries = scale.entries.items ≡ entries
+AnswersScale (Ok scale) entries = scale ≡ entries
 AnswersScale (Err (faults.At line kind)) entries = ⊥
 AnswersScale (Err faults.Memory) entries = Unit {0}
 

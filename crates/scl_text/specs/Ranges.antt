@@ -1,5 +1,5 @@
 -- What a scale keeps.
-use Rattle.std.specs.Prelude.{ℕ, ◌<◌, ◌≤◌, ◌≡◌, ◌^◌, ℤ, pos, neg_ℤ, ◌≤ℤ◌, List, Some, slice_get}
+use Rattle.std.specs.Prelude.{ℕ, ◌<◌, ◌≤◌, ◌≡◌, ◌^◌, ℤ, pos, neg_ℤ, ◌≤ℤ◌, List, length, Some, slice_get}
 use Rattle.scl_text.specs.declared.entry.Entry.{Entry}
 use Rattle.scl_text.specs.declared.entry.Entry.TheVariants.{Ratio, Cents}
 
@@ -20,7 +20,9 @@ abbrev pub IsEntry : Entry → Type 0
 IsEntry (Ratio num den) = IsRatio num den
 IsEntry (Cents nanocents) = IsCents nanocents
 
--- Each entry of the list, by what it is.
-pub record AreEntries (entries : List Entry) : Type 0 where
+-- Of 1 to 4,096 entries, each is in its range.
+pub record IsInRange (entries : List Entry) : Type 0 where
+  pub some : 1 ≤ length entries
+  pub few : length entries ≤ 4096
   pub ratios : (k num den : ℕ) → slice_get entries k ≡ Some (Ratio num den) → IsRatio num den
   pub cents : (k : ℕ) (nanocents : ℤ) → slice_get entries k ≡ Some (Cents nanocents) → IsCents nanocents

@@ -96,7 +96,7 @@ fn entries_of(alloc: Global, text: &[u8]) -> Result<Vec<Entry>, SclFault>
 /// The scale of a text.
 fn scale(alloc: Global, text: &[u8]) -> Result<Scale, SclFault>
     requires { length text.now ≤ 262144 }
-    ensures { Gives (λ scale. scale.entries.items) result (scale_of (lines_of text.now)) }
+    ensures { Gives (λ scale. scale) result (scale_of (lines_of text.now)) }
 {
     fronts();
     numbers();
@@ -111,7 +111,7 @@ fn scale(alloc: Global, text: &[u8]) -> Result<Scale, SclFault>
 pub fn read_scl(alloc: Global, text: &[u8]) -> Result<Scale, SclFault>
     requires { length text.now ≤ 262144 }
     // What is read is a scale text with these entries.
-    ensures found { IfOk result (λ scale. ScaleText (lines_of text.now) scale.entries.items) }
+    ensures found { IfOk result (ScaleText (lines_of text.now)) }
     // A scale text is read, unless memory runs out.
     ensures only { (entries : List Entry) → ScaleText (lines_of text.now) entries → AnswersScale result entries }
     // What is answered is the first fault.
@@ -119,7 +119,7 @@ pub fn read_scl(alloc: Global, text: &[u8]) -> Result<Scale, SclFault>
     // A text with a fault is refused with it, unless memory runs out.
     ensures only_fault { (line : ℕ) (kind : SclKind) → ScaleFault (lines_of text.now) line kind → AnswersFault result line kind }
     // Reading from left to right gives the same.
-    ensures exact { Gives (λ scale. scale.entries.items) result (scale_of (lines_of text.now)) }
+    ensures exact { Gives (λ scale. scale) result (scale_of (lines_of text.now)) }
 {
     fronts();
     numbers();

@@ -1,7 +1,5 @@
-ghost use Rattle.std.specs.Prelude.{◌≤◌, vec_len};
-ghost use Rattle.scl_text.specs.Ranges.{AreEntries};
-
 use crate::entry::Entry;
+use std::marker::Model;
 
 /// A scale: the pitches of its notes above the first, which is 1/1 and isn't listed. The last is the
 /// period. It has 1 to 4,096 entries. The numbers of a ratio are from 1 to 2^63 - 1; cents are from
@@ -9,7 +7,17 @@ use crate::entry::Entry;
 #[derive(Debug, Drop)]
 pub struct Scale {
     pub entries: Vec<Entry>,
-    pub ghost some: { 1 ≤ vec_len entries },
-    pub ghost few: { vec_len entries ≤ 4096 },
-    pub ghost in_range: { AreEntries entries.items },
+}
+
+impl Model for Scale {
+    ghost use Rattle.std.specs.Prelude.{List};
+    ghost use Rattle.scl_text.specs.declared.entry.Entry.{Entry};
+
+    ghost Value = { List Entry };
+
+    ghost use Rattle.scl_text.specs.Ranges.{IsInRange};
+
+    ghost view = { λ s. s.entries.items };
+
+    ghost invariant = { λ s. IsInRange s.entries.items };
 }

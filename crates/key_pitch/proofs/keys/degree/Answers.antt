@@ -1,9 +1,8 @@
-use Rattle.std.proofs.Common.{◌≡◌, ◌^◌, arith, rules, ◌∙◌, sym, ap, length, to_z, of_z, w32}
+use Rattle.std.proofs.Common.{◌≡◌, ◌^◌, arith, rules, ◌∙◌, ap, length, to_z, of_z, w32}
 use Rattle.std.specs.Prelude.{vec_len}
 use Rattle.std.proofs.lemmas.Int.{to_z-of_z}
 use Rattle.retune_model.specs.Scale.{size_of, floor_div, floor_rem}
-use Rattle.key_pitch.specs.Views.{steps_of}
-use Rattle.key_pitch.proofs.Steps.{steps_length, degree_sums}
+use Rattle.key_pitch.proofs.Steps.{degree_sums}
 use Rattle.key_pitch.proofs.Sums.{smaller}
 use Rattle.key_pitch.proofs.keys.degree.Goals as goal
 
@@ -21,9 +20,9 @@ pub returns-clause-sum : goal.returns-clause-sum
 returns-clause-sum c =
     let d_fits = to_z-of_z w32 c.args.degree c.ranges.degree in
     let q_fits = to_z-of_z w32 c.divided-periods.result.0 (search rules) in
-    let items : vec_len c.args.scale.now.entries ≡ length c.args.scale.now.entries.items = search rules in
-    degree_sums (steps_of c.args.scale.now.entries.items) c.args.degree c.len-size.result (to_z w32 (of_z w32 c.divided-periods.result.0)) c.divided-periods.result.1 c.plus.result
-    (c.len-size.ensures ∙ items ∙ sym (steps_length c.args.scale.now.entries.items))
+    let items : vec_len c.scale.inside.entries ≡ length c.scale.inside.entries.items = search rules in
+    degree_sums c.args.scale.now c.args.degree c.len-size.result (to_z w32 (of_z w32 c.divided-periods.result.0)) c.divided-periods.result.1 c.plus.result
+    (c.len-size.ensures ∙ items ∙ ap length c.scale.view_is)
     (q_fits ∙ c.divided-periods.ensures.quotient ∙ ap (λ z. floor_div z c.len-size.result) d_fits)
     (c.divided-periods.ensures.rest ∙ ap (λ z. floor_rem z c.len-size.result) d_fits)
     (c.plus.ensures.sum _ _ _ _ _ _ (c.repeated.ensures.sum _ _ _ c.step.ensures.sum) c.step-2.ensures.sum)

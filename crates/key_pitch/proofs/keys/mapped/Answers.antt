@@ -1,7 +1,7 @@
 use Rattle.std.proofs.Common.{◌^◌, arith, ap, w32}
 use Rattle.std.proofs.lemmas.Int.{ints, to_z-of_z}
+use Rattle.kbm_text.specs.Map.{KeyMap}
 use Rattle.retune_model.specs.Scale.{size_of}
-use Rattle.key_pitch.specs.Views.{steps_of, view_mapping}
 use Rattle.key_pitch.proofs.Placed.{entry_sums}
 use Rattle.key_pitch.proofs.Sums.{smaller}
 use Rattle.key_pitch.proofs.keys.mapped.Goals as goal
@@ -14,9 +14,10 @@ plus-requires-clause-small c =
 
 pub returns-clause-sum : goal.returns-clause-sum
 returns-clause-sum c =
-    entry_sums (steps_of c.args.scale.now.entries.items) (view_mapping c.args.mapping.now) c.args.turns _ _ _ c.in-Some.place c.args.entry c.plus.result
+    let octave = ap (λ (m : KeyMap). m.octave) c.mapping.view_is in
+    entry_sums c.args.scale.now c.args.mapping.now c.args.turns _ _ _ c.in-Some.place c.args.entry c.plus.result
     (c.plus.ensures.sum _ _ _ _ _ _ (c.repeated-octaves.ensures.sum _ _ _ c.degree.ensures.sum) c.degree-2.ensures.sum)
-    (to_z-of_z w32 c.args.turns c.ranges.turns) (omega (arith, ints)) (omega (arith, ints)) c.in-Some.is
+    (to_z-of_z w32 c.args.turns c.ranges.turns) (omega (arith, ints, octave)) (omega (arith, ints)) c.in-Some.is
 
 pub returns-clause-small : goal.returns-clause-small
 returns-clause-small c =

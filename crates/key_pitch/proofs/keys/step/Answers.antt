@@ -8,24 +8,24 @@ use Rattle.key_pitch.proofs.keys.step.Goals as goal
 
 pub grains-requires-in-Cents-clause-low : goal.grains-requires-in-Cents-clause-low
 grains-requires-in-Cents-clause-low c =
-    let there = element c.args.scale.now.entries.items (c.args.place - 1) c.index.result.now (search rules) c.index.ensures in
-    let r = c.args.scale.now.in_range.cents (c.args.place - 1) c.in-Cents.nanocents (there ∙ ap (λ e. Some e) c.in-Cents.is) in
+    let there = element c.scale.inside.entries.items (c.args.place - 1) c.index.result.now (search rules) c.index.ensures in
+    let r = c.scale.invariant.cents (c.args.place - 1) c.in-Cents.nanocents (there ∙ ap (λ e. Some e) c.in-Cents.is) in
     omega (arith, ints, r.low, r.high)
 
 pub grains-requires-in-Cents-clause-high : goal.grains-requires-in-Cents-clause-high
 grains-requires-in-Cents-clause-high c =
-    let there = element c.args.scale.now.entries.items (c.args.place - 1) c.index.result.now (search rules) c.index.ensures in
-    let r = c.args.scale.now.in_range.cents (c.args.place - 1) c.in-Cents.nanocents (there ∙ ap (λ e. Some e) c.in-Cents.is) in
+    let there = element c.scale.inside.entries.items (c.args.place - 1) c.index.result.now (search rules) c.index.ensures in
+    let r = c.scale.invariant.cents (c.args.place - 1) c.in-Cents.nanocents (there ∙ ap (λ e. Some e) c.in-Cents.is) in
     omega (arith, ints, r.low, r.high)
 
 pub returns-in-Ratio-clause-sum : goal.returns-in-Ratio-clause-sum
 returns-in-Ratio-clause-sum c =
-    let there = element c.args.scale.now.entries.items (c.args.place - 1) c.index.result.now (search rules) c.index.ensures in
-    step_sums c.args.scale.now.entries.items c.args.place _ c.ratio.result c.if-place-eq0.false (there ∙ ap (λ e. Some e) c.in-Ratio.is) c.ratio.ensures.sum
+    let there = element c.scale.inside.entries.items (c.args.place - 1) c.index.result.now (search rules) c.index.ensures in
+    rw (← c.scale.view_is) (step_sums c.scale.inside.entries.items c.args.place _ c.ratio.result c.if-place-eq0.false (there ∙ ap (λ e. Some e) c.in-Ratio.is) c.ratio.ensures.sum)
 
 pub returns-in-Cents-clause-sum : goal.returns-in-Cents-clause-sum
 returns-in-Cents-clause-sum c =
-    let there = element c.args.scale.now.entries.items (c.args.place - 1) c.index.result.now (search rules) c.index.ensures in
-    let r = c.args.scale.now.in_range.cents (c.args.place - 1) c.in-Cents.nanocents (there ∙ ap (λ e. Some e) c.in-Cents.is) in
-    step_sums c.args.scale.now.entries.items c.args.place _ c.grains-in-Cents.result c.if-place-eq0.false (there ∙ ap (λ e. Some e) c.in-Cents.is)
-    (subst (λ z. Sums (exactly z) 0 [] c.grains-in-Cents.result) (omega (arith, ints, r.low, r.high)) c.grains-in-Cents.ensures.sum)
+    let there = element c.scale.inside.entries.items (c.args.place - 1) c.index.result.now (search rules) c.index.ensures in
+    let r = c.scale.invariant.cents (c.args.place - 1) c.in-Cents.nanocents (there ∙ ap (λ e. Some e) c.in-Cents.is) in
+    rw (← c.scale.view_is) (step_sums c.scale.inside.entries.items c.args.place _ c.grains-in-Cents.result c.if-place-eq0.false (there ∙ ap (λ e. Some e) c.in-Cents.is)
+    (subst (λ z. Sums (exactly z) 0 [] c.grains-in-Cents.result) (omega (arith, ints, r.low, r.high)) c.grains-in-Cents.ensures.sum))

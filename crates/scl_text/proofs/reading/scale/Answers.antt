@@ -1,11 +1,8 @@
-use Rattle.std.proofs.Common.{arith}
 use Rattle.scl_text.proofs.Premises.{fronts_by, numbers_by}
 use Rattle.scl_text.proofs.Scales.{kept}
 use Rattle.scl_text.proofs.reading.scale.Goals as goal
 
 pub invariant_of-result : goal.invariant_of-result
 invariant_of-result c =
-    let k = kept (fronts_by c.fronts.ensures.whole c.fronts.ensures.passes c.fronts.ensures.stops c.fronts.ensures.front c.fronts.ensures.behind)
-    (numbers_by c.numbers.ensures.found c.numbers.ensures.none c.numbers.ensures.either) c.decimals.ensures.low _ _ _ c.in_ok-entries.ensures in
-    let n = c.in_ok-entries.entries.ok in
-    record { some = omega (arith, k.0, n); few = omega (arith, k.1, n); in_range = k.2 }
+    kept (fronts_by c.fronts.ensures.whole c.fronts.ensures.passes c.fronts.ensures.stops c.fronts.ensures.front c.fronts.ensures.behind)
+    (numbers_by c.numbers.ensures.found c.numbers.ensures.none c.numbers.ensures.either) c.decimals.ensures.low _ _ _ c.in_ok-entries.ensures
