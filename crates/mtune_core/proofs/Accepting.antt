@@ -10,11 +10,11 @@ use Rattle.midi_model.specs.declared.fault.SmfKind.{SmfKind}
 use Rattle.midi_model.specs.FileText.{MidiFile}
 use Rattle.midi_model.specs.Faults.{FirstFault}
 use Rattle.midi_model.specs.Spelling.{Spells}
-use Rattle.retune_model.specs.Scale.{a440_mapping, term_count}
+use Rattle.kbm_text.specs.Map.{a440}
+use Rattle.retune_model.specs.Scale.{term_count}
 use Rattle.retune_model.specs.Table.{IsTable}
 use Rattle.retune_model.specs.Dump.{tuning_at}
 use Rattle.retune_model.specs.Faults.{Targets}
-use Rattle.key_pitch.specs.Views.{steps_of}
 use Rattle.mtune_files.specs.Names.{Held, IsHeld, IsLongerThan, content_at}
 use Rattle.mtune_files.specs.Faults.{Faults}
 use Rattle.mtune_files.specs.declared.which.Which.TheVariants.{Scale, Map, Input}
@@ -72,11 +72,11 @@ not_yet laws held words a table kind is_table cause =
     ]
 
 too_many : OneAnswer → (held : Option Held) (words : List (List ℕ)) (a : IsAccepted held words) (key : ℕ)
-    → ((entries : List Entry) × ScaleText (lines_of a.text) entries × IsTuneFault (steps_of entries) (TooManyPeriods key)) → ⊥
+    → ((entries : List Entry) × ScaleText (lines_of a.text) entries × IsTuneFault entries (TooManyPeriods key)) → ⊥
 too_many laws held words a key x =
     let same : x.0 ≡ a.entries = laws.one_scale (lines_of a.text) x.0 a.entries x.1 a.is_scale.read in
-    let many : 1700 < term_count (steps_of a.entries) a440_mapping key = subst (λ es. 1700 < term_count (steps_of es) a440_mapping key) same x.2.1 in
-    let few : term_count (steps_of a.entries) a440_mapping key ≤ 1700 = a.is_scale.few key 0 x.2.0 in
+    let many : 1700 < term_count a.entries a440 key = subst (λ es. 1700 < term_count es a440 key) same x.2.1 in
+    let few : term_count a.entries a440 key ≤ 1700 = a.is_scale.few key 0 x.2.0 in
     absurd (omega (arith, many, few))
 
 -- ---- each cause
@@ -91,7 +91,7 @@ no_cause laws steady held words a before now none (TooLong Map) h = absurd h
 no_cause laws steady held words a before now none (Scl line kind) h =
     absurd (laws.no_scale_fault (lines_of a.text) a.entries line kind a.is_scale.read (its_text held words a (λ text. ScaleFault (lines_of text) line kind) h))
 no_cause laws steady held words a before now none (TooManyPeriods key) h =
-    absurd (too_many laws held words a key (its_text held words a (λ text. (entries : List Entry) × ScaleText (lines_of text) entries × IsTuneFault (steps_of entries) (TooManyPeriods key)) h))
+    absurd (too_many laws held words a key (its_text held words a (λ text. (entries : List Entry) × ScaleText (lines_of text) entries × IsTuneFault entries (TooManyPeriods key)) h))
 no_cause laws steady held words a before now none (Smf offset kind) h =
     absurd (laws.no_file_fault a.input a.source offset kind a.spelled (its_input held words a (λ input. FirstFault input offset kind) h.2))
 no_cause laws steady held words a before now none (NotYet kind) h =

@@ -10,12 +10,12 @@ use Rattle.midi_model.specs.Faults.{FirstFault}
 use Rattle.midi_model.specs.Merged.{merged}
 use Rattle.midi_model.specs.Spelling.{Spells}
 use Rattle.midi_model.specs.Writing.{file_bytes}
-use Rattle.retune_model.specs.Scale.{Step, a440_mapping, term_count}
+use Rattle.kbm_text.specs.Map.{a440}
+use Rattle.retune_model.specs.Scale.{term_count}
 use Rattle.retune_model.specs.Table.{Scaling, IsTable, AreFewTerms, one_scale}
 use Rattle.retune_model.specs.Faults.{Targets}
 use Rattle.retune_model.specs.Dump.{tuning_at, values_from}
 use Rattle.retune_model.specs.PlaysTheSame.{PlaysTheSame}
-use Rattle.key_pitch.specs.Views.{steps_of}
 use Rattle.key_pitch.specs.Aims.{table_of}
 use Rattle.key_pitch.specs.declared.table.KeyTable.{KeyTable}
 use Rattle.mtune_files.specs.declared.which.Which.{Which}
@@ -50,7 +50,7 @@ LoadCause steady held before now which name limit _ = ⊥
 
 -- the scale at 440 hertz
 abbrev pub scaling_of : List Entry → Scaling
-scaling_of entries = one_scale (steps_of entries) a440_mapping
+scaling_of entries = one_scale entries a440
 
 -- the table that the program made of it, at every tick the same
 abbrev pub table_fn : KeyTable → Targets
@@ -63,8 +63,8 @@ pub record IsScale (text : List ℕ) (entries : List Entry) : Type 0 where
   pub few : AreFewTerms (scaling_of entries)
 
 -- The reference key, 69, is always mapped; so it is a key that has more than 1,700 terms, the least one.
-abbrev pub IsTuneFault : List Step → Fault → Type 0
-IsTuneFault scale (TooManyPeriods key) = (key ≤ 127) × (1700 < term_count scale a440_mapping key) × ((k : ℕ) → k < key → term_count scale a440_mapping k ≤ 1700)
+abbrev pub IsTuneFault : List Entry → Fault → Type 0
+IsTuneFault scale (TooManyPeriods key) = (key ≤ 127) × (1700 < term_count scale a440 key) × ((k : ℕ) → k < key → term_count scale a440 k ≤ 1700)
 IsTuneFault scale _ = ⊥
 
 -- the first fault of the scale text
@@ -78,7 +78,7 @@ abbrev pub TableCause : Bool → Option Held → Faults → Faults → List ℕ 
 TableCause steady held before now name (Load w) = LoadCause steady held before now Scale name 262144 (Load w)
 TableCause steady held before now name (TooLong w) = LoadCause steady held before now Scale name 262144 (TooLong w)
 TableCause steady held before now name (Scl line kind) = At held name (λ text. ScaleFault (lines_of text) line kind)
-TableCause steady held before now name (TooManyPeriods key) = At held name (λ text. (entries : List Entry) × ScaleText (lines_of text) entries × IsTuneFault (steps_of entries) (TooManyPeriods key))
+TableCause steady held before now name (TooManyPeriods key) = At held name (λ text. (entries : List Entry) × ScaleText (lines_of text) entries × IsTuneFault entries (TooManyPeriods key))
 TableCause steady held before now name Memory = NoneFailed before now
 TableCause steady held before now name _ = ⊥
 

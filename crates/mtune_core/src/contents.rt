@@ -47,7 +47,7 @@ pub fn load<F: Files>(
 /// The scale of a text.
 pub fn read_scale(alloc: Global, text: &[u8]) -> Result<Scale, Fault>
     requires { length text.now ≤ 262144 }
-    ensures found { IfOk result (λ scale. ScaleText (lines_of text.now) scale.entries.items) }
+    ensures found { IfOk result (ScaleText (lines_of text.now)) }
     ensures cause { IfErr result (λ e. TextCause text.now e) }
 {
     match read_scl(alloc, text) {
