@@ -3,6 +3,7 @@
 -- them from the fault on, and of its kind. A fault at the end of a chunk, or of the bytes, has no bytes from it on.
 use Rattle.std.specs.Prelude.{◌≡◌, ◌<◌, ◌≤◌, ◌⊎◌, ℕ, zero, suc, ◌+◌, ◌-◌, List, [], ◌∷◌, ◌++◌, length, drop, false}
 use Rattle.std.specs.Int.{w16, w32}
+use Rattle.midi_model.specs.declared.numbers.TheConstants.{MTHD, MTRK, MOST_TRACKS, LAST_TICK}
 use Rattle.midi_model.specs.declared.fault.SmfKind.{SmfKind}
 use Rattle.midi_model.specs.declared.fault.SmfKind.TheVariants.{NotMidi, BadHeader, Format2, FormatNumber, Truncated, MissingTrack, BadDelta, NoStatus, BadStatus, BadData, MissingEnd, TrackTooLong, TooManyTracks}
 use Rattle.mt_base.specs.Midi.{Timed, is_end}
@@ -55,7 +56,7 @@ BodyFault running (b ∷ bytes) back kind =
 -- an event, where those before it end at a tick
 abbrev pub EventFault : ℕ → ℕ → List ℕ → List ℕ → SmfKind → Type 0
 EventFault running before bytes back kind = QuantityFault bytes back kind ⊎ ((delta : List ℕ) × (distance : ℕ) × (rest : List ℕ) × IsQuantity delta distance × (bytes ≡ delta ++ rest)
-    × (((268435455 < before + distance) × (back ≡ bytes) × (kind ≡ TrackTooLong)) ⊎ ((before + distance ≤ 268435455) × BodyFault running rest back kind)))
+    × (((LAST_TICK < before + distance) × (back ≡ bytes) × (kind ≡ TrackTooLong)) ⊎ ((before + distance ≤ LAST_TICK) × BodyFault running rest back kind)))
 
 -- whole events none of which ends the track, with the running status and the tick behind them
 abbrev pub AreEvents : ℕ → ℕ → List ℕ → List Timed → ℕ → ℕ → Type 0
@@ -96,7 +97,7 @@ pub record NextFault (bytes back : List ℕ) (kind : SmfKind) : Type 0 where
   pub are_skipped : AreSkipped others skipped
   pub parts : bytes ≡ skipped ++ rest
   pub fault : ChunkFault rest back kind
-      ⊎ ((chunk : List ℕ) × (content : List ℕ) × (after : List ℕ) × (inside : List ℕ) × IsChunk chunk 0x4d54726b content × (rest ≡ chunk ++ after) × TrackFault 0 0 content inside kind × (back ≡ inside ++ after))
+      ⊎ ((chunk : List ℕ) × (content : List ℕ) × (after : List ℕ) × (inside : List ℕ) × IsChunk chunk MTRK content × (rest ≡ chunk ++ after) × TrackFault 0 0 content inside kind × (back ≡ inside ++ after))
 
 -- Fewer whole tracks than the header declares, each with the chunks that are skipped before it, and then a fault.
 pub record TracksFault (count : ℕ) (bytes back : List ℕ) (kind : SmfKind) : Type 0 where
@@ -121,21 +122,21 @@ pub record FieldsFault (bytes back : List ℕ) (kind : SmfKind) : Type 0 where
   pub fault : ((format ≡ 2) × (back ≡ bytes) × (kind ≡ Format2))
       ⊎ (((2 < format) × (back ≡ bytes) × (kind ≡ FormatNumber))
       ⊎ (((format ≤ 1) × ((tracks ≡ 0) ⊎ ((format ≡ 0) × (tracks ≡ 1 → ⊥))) × (back ≡ tracks_bytes ++ more) × (kind ≡ BadHeader))
-      ⊎ ((format ≡ 1) × (1024 < tracks) × (back ≡ tracks_bytes ++ more) × (kind ≡ TooManyTracks))))
+      ⊎ ((format ≡ 1) × (MOST_TRACKS < tracks) × (back ≡ tracks_bytes ++ more) × (kind ≡ TooManyTracks))))
 
 -- the header
 abbrev pub HeaderFault : List ℕ → List ℕ → SmfKind → Type 0
 HeaderFault bytes back kind =
     ((length bytes < 4) × (back ≡ bytes) × (kind ≡ NotMidi))
     ⊎ (((name : ℕ) × (first : List ℕ) × (rest : List ℕ) × IsNumber w32 first name × (bytes ≡ first ++ rest)
-    × (((name ≡ 0x4d546864 → ⊥) × (back ≡ bytes) × (kind ≡ NotMidi)) ⊎ ((name ≡ 0x4d546864) × (length rest < 4) × (back ≡ []) × (kind ≡ Truncated))))
-    ⊎ ((size : ℕ) × (after : List ℕ) × IsHead bytes 0x4d546864 size after
+    × (((name ≡ MTHD → ⊥) × (back ≡ bytes) × (kind ≡ NotMidi)) ⊎ ((name ≡ MTHD) × (length rest < 4) × (back ≡ []) × (kind ≡ Truncated))))
+    ⊎ ((size : ℕ) × (after : List ℕ) × IsHead bytes MTHD size after
     × (((size < 6) × (back ≡ drop 4 bytes) × (kind ≡ BadHeader)) ⊎ (((6 ≤ size) × BytesFault size after back kind) ⊎ ((6 ≤ size) × (size ≤ length after) × FieldsFault after back kind)))))
 
 -- a file: the header, or what is behind a whole one
 abbrev pub FileFault : List ℕ → List ℕ → SmfKind → Type 0
 FileFault bytes back kind = HeaderFault bytes back kind
-    ⊎ ((header : List ℕ) × (fields : List ℕ) × (rest : List ℕ) × (format : ℕ) × (tracks : ℕ) × (division : ℕ) × IsChunk header 0x4d546864 fields × IsFields fields format tracks division × (bytes ≡ header ++ rest) × TracksFault tracks rest back kind)
+    ⊎ ((header : List ℕ) × (fields : List ℕ) × (rest : List ℕ) × (format : ℕ) × (tracks : ℕ) × (division : ℕ) × IsChunk header MTHD fields × IsFields fields format tracks division × (bytes ≡ header ++ rest) × TracksFault tracks rest back kind)
 
 -- The bytes' first fault, at an offset from their start.
 pub record FirstFault (bytes : List ℕ) (offset : ℕ) (kind : SmfKind) : Type 0 where

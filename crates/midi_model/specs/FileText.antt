@@ -1,6 +1,7 @@
 -- A whole file, read from left to right, with its first fault (Standard MIDI File 1.0; formats 0 and 1, at most 1,024 tracks).
 use Rattle.std.specs.Prelude.{ℕ, zero, suc, ◌+◌, ◌-◌, List, [], ◌∷◌, length, take, drop, map, ◌&&◌, ◌||◌, not, Result, Ok, Err, Option, Some, None, nat_lt, ◌==◌, if◌then◌else◌}
 use Rattle.std.specs.Int.{Width, w16, w32, byte_len, from_be_bytes}
+use Rattle.midi_model.specs.declared.numbers.TheConstants.{MTHD, MTRK, MOST_TRACKS}
 use Rattle.midi_model.specs.declared.fault.SmfKind.{SmfKind}
 use Rattle.midi_model.specs.declared.fault.SmfKind.TheVariants.{NotMidi, BadHeader, Format2, FormatNumber, Truncated, MissingTrack, TooManyTracks}
 use Rattle.midi_model.specs.declared.fault.Stop.{Stop}
@@ -25,14 +26,14 @@ fields_at size bytes =
     if format == 2 then stop bytes Format2
     else if nat_lt 2 format then stop bytes FormatNumber
     else if tracks == 0 || (format == 0 && not (tracks == 1)) then stop (drop 2 bytes) BadHeader
-    else if nat_lt 1024 tracks then stop (drop 2 bytes) TooManyTracks
+    else if nat_lt MOST_TRACKS tracks then stop (drop 2 bytes) TooManyTracks
     else Ok (record { format = format; tracks = tracks; division = number w16 (drop 2 (drop 2 bytes)) }, drop size bytes)
 
 -- `MThd`, a length of at least six, and the content
 unfoldable pub header_at : List ℕ → Result (Header × List ℕ) Stop
 header_at bytes =
     if nat_lt (length bytes) 4 then stop bytes NotMidi
-    else if not (number w32 bytes == 0x4d546864) then stop bytes NotMidi
+    else if not (number w32 bytes == MTHD) then stop bytes NotMidi
     else if nat_lt (length bytes) 8 then stop [] Truncated
     else if nat_lt (number w32 (drop 4 bytes)) 6 then stop (drop 4 bytes) BadHeader
     else if nat_lt (length (drop 4 (drop 4 bytes))) (number w32 (drop 4 bytes)) then stop [] Truncated
@@ -57,7 +58,7 @@ unfoldable pub content_from : ℕ → List ℕ → Result (List ℕ × List ℕ)
 content_from zero bytes = stop bytes MissingTrack
 content_from (suc turns) bytes = do
   c ← chunk_at bytes
-  if c.0.name == 0x4d54726b then Ok (c.0.content, c.1) else content_from turns c.1
+  if c.0.name == MTRK then Ok (c.0.content, c.1) else content_from turns c.1
 
 unfoldable pub next_content : List ℕ → Result (List ℕ × List ℕ) Stop
 next_content bytes = content_from (suc (length bytes)) bytes

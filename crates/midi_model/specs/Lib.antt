@@ -5,6 +5,7 @@ pub mod Merged
 pub mod ReadingLaws
 pub mod Kinds
 pub mod Faults
+pub mod FileLaws
 pub mod Examples
 pub mod Sysex
 pub mod TuningBytes
@@ -20,6 +21,7 @@ pub mod Receiver
 pub mod Played
 pub mod Bring
 pub mod Order
+pub mod OrderLaws
 pub mod Writing
 pub mod WritingLaws
 pub mod SizeLaws

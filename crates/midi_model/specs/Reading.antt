@@ -2,6 +2,7 @@
 -- Detailed Specification). A fault says how many bytes are left where it stands.
 use Rattle.std.specs.Prelude.{◌≡◌, ◌<◌, ◌≤◌, ◌⊎◌, ℕ, zero, suc, ◌+◌, ◌-◌, ◌*◌, ◌^◌, List, [], ◌∷◌, length, take, drop, Bool, false, ◌&&◌, ◌||◌, Result, Ok, Err, Option, Some, None, nat_lt, ◌==◌, if◌then◌else◌}
 use Rattle.std.specs.Borrow.{Bor}
+use Rattle.midi_model.specs.declared.numbers.TheConstants.{LAST_TICK, META, END_OF_TRACK}
 use Rattle.midi_model.specs.declared.fault.SmfKind.{SmfKind}
 use Rattle.midi_model.specs.declared.fault.SmfKind.TheVariants.{Truncated, BadDelta, NoStatus, BadStatus, BadData, MissingEnd, TrackTooLong}
 use Rattle.midi_model.specs.declared.fault.Stop.{Stop}
@@ -104,33 +105,39 @@ unfoldable pub meta_at : List ℕ → Result (MidiWhat × List ℕ) Stop
 meta_at [] = stop [] Truncated
 meta_at (kind ∷ bytes) = do
   n ← quantity_at bytes
-  if kind == 47 && nat_lt 0 n.0 then stop bytes BadData else (do
+  if kind == END_OF_TRACK && nat_lt 0 n.0 then stop bytes BadData else (do
     x ← bytes_at n.0 n.1
     Ok (MetaOf kind x.0, x.1))
+
+-- a message whose status byte is known, as an event, and the running status after it
+abbrev pub says_at : ℕ → List ℕ → Result (MidiWhat × ℕ × List ℕ) Stop
+says_at status bytes = do
+  m ← message_at status bytes
+  Ok (Says m.0, status, m.1)
+
+-- a meta event as one, after which no status runs on
+abbrev pub meta_alone_at : List ℕ → Result (MidiWhat × ℕ × List ℕ) Stop
+meta_alone_at bytes = do
+  x ← meta_at bytes
+  Ok (x.0, 0, x.1)
 
 -- an event behind its delta, and the running status after it; 0 is none
 unfoldable pub body_at : ℕ → List ℕ → Result (MidiWhat × ℕ × List ℕ) Stop
 body_at running [] = stop [] Truncated
 body_at running (b ∷ bytes) =
-    if nat_lt b 128 then (if running == 0 then stop (b ∷ bytes) NoStatus else (do
-      m ← message_at running (b ∷ bytes)
-      Ok (Says m.0, running, m.1)))
-    else if nat_lt b 240 then (do
-      m ← message_at b bytes
-      Ok (Says m.0, b, m.1))
+    if nat_lt b 128 then (if running == 0 then stop (b ∷ bytes) NoStatus else says_at running (b ∷ bytes))
+    else if nat_lt b 240 then says_at b bytes
     else if b == 240 || b == 247 then (do
       x ← content_at bytes
       Ok (SysexOf b x.0, 0, x.1))
-    else if b == 255 then (do
-      x ← meta_at bytes
-      Ok (x.0, 0, x.1))
+    else if b == META then meta_alone_at bytes
     else stop (b ∷ bytes) BadStatus
 
 -- an event, where the events before it end at a tick
 unfoldable pub event_at : ℕ → ℕ → List ℕ → Result (Timed × ℕ × List ℕ) Stop
 event_at running before bytes = do
   delta ← quantity_at bytes
-  if nat_lt 268435455 (before + delta.0) then stop bytes TrackTooLong else (do
+  if nat_lt LAST_TICK (before + delta.0) then stop bytes TrackTooLong else (do
     x ← body_at running delta.1
     Ok (record { tick = before + delta.0; what = x.0 }, x.1, x.2))
 

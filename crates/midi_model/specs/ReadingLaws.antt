@@ -1,6 +1,7 @@
 -- Laws of reading a file from left to right: each is a sentence about what stands at the front of the bytes, or about how many
 -- events they have.
 use Rattle.std.specs.Prelude.{◌≡◌, ◌<◌, ◌≤◌, ◌^◌, ℕ, ◌+◌, ◌*◌, List, length, map, Ok, Some, None, ◌==◌, if◌then◌else◌}
+use Rattle.midi_model.specs.declared.numbers.TheConstants.{MTRK}
 use Rattle.mt_base.specs.Midi.{Timed, placed}
 use Rattle.midi_model.specs.Reading.{◌>>=◌, IsRunning, quantity_at, event_at, continued, rest_of_track, track_in}
 use Rattle.midi_model.specs.FileText.{chunk_at, next_content, track_at, tracks_at, events_of, together}
@@ -8,7 +9,7 @@ use Rattle.midi_model.specs.Merged.{first_tick, IsTrackOf}
 
 -- The next track's content is that of the chunk at the front, where its type is `MTrk`; otherwise it is the next one behind that chunk.
 abbrev pub ContentByChunks : Type 0
-ContentByChunks = (bytes : List ℕ) → next_content bytes ≡ (chunk_at bytes >>= λ c. if c.0.name == 0x4d54726b then Ok (c.0.content, c.1) else next_content c.1)
+ContentByChunks = (bytes : List ℕ) → next_content bytes ≡ (chunk_at bytes >>= λ c. if c.0.name == MTRK then Ok (c.0.content, c.1) else next_content c.1)
 
 -- What is left of a track, where there is anything, is the event at the front and, unless that ends the track, what is left behind it.
 abbrev pub TrackByEvents : Type 0

@@ -3,6 +3,7 @@ use Rattle.std.specs.Prelude.{◌≡◌, ◌<◌, ◌≤◌, ◌⊎◌, ℕ, ◌
 use Rattle.mt_base.specs.declared.event.Msg.{Msg}
 use Rattle.mt_base.specs.Midi.{MidiWhat, Says, SysexOf, MetaOf, Timed, is_end}
 use Rattle.std.specs.Int.{Width, w16, w32, byte_len, from_be_bytes}
+use Rattle.midi_model.specs.declared.numbers.TheConstants.{MTHD, MTRK, MOST_TRACKS}
 use Rattle.midi_model.specs.FileText.{MidiFile}
 use Rattle.midi_model.specs.Reading.{long_msg, short_msg, IsLong}
 
@@ -63,7 +64,7 @@ pub record IsChunk (bytes : List ℕ) (name : ℕ) (content : List ℕ) : Type 0
 -- chunks whose type isn't `MTrk`
 abbrev pub AreSkipped : List (ℕ × List ℕ) → List ℕ → Type 0
 AreSkipped [] bytes = bytes ≡ []
-AreSkipped (c ∷ cs) bytes = (front : List ℕ) × (rest : List ℕ) × IsChunk front c.0 c.1 × (c.0 ≡ 0x4d54726b → ⊥) × (bytes ≡ front ++ rest) × AreSkipped cs rest
+AreSkipped (c ∷ cs) bytes = (front : List ℕ) × (rest : List ℕ) × IsChunk front c.0 c.1 × (c.0 ≡ MTRK → ⊥) × (bytes ≡ front ++ rest) × AreSkipped cs rest
 
 -- a track chunk with those that are skipped before it
 pub record IsTrackChunk (bytes content : List ℕ) : Type 0 where
@@ -71,7 +72,7 @@ pub record IsTrackChunk (bytes content : List ℕ) : Type 0 where
   pub skipped : List ℕ
   pub chunk : List ℕ
   pub are_skipped : AreSkipped others skipped
-  pub is_chunk : IsChunk chunk 0x4d54726b content
+  pub is_chunk : IsChunk chunk MTRK content
   pub parts : bytes ≡ skipped ++ chunk
 
 -- track chunks, each with the events of its content
@@ -91,7 +92,7 @@ pub record IsFields (bytes : List ℕ) (format tracks division : ℕ) : Type 0 w
   pub parts : bytes ≡ format_bytes ++ (tracks_bytes ++ (division_bytes ++ more))
   pub one_or_more : 0 < tracks
   pub one_in_0 : format ≡ 0 → tracks ≡ 1
-  pub few : tracks ≤ 1024
+  pub few : tracks ≤ MOST_TRACKS
   pub format_0_or_1 : format ≤ 1
 
 -- a file: its header, its tracks, and then anything
@@ -100,7 +101,7 @@ pub record Spells (bytes : List ℕ) (file : MidiFile) : Type 0 where
   pub fields : List ℕ
   pub tracks : List ℕ
   pub more : List ℕ
-  pub is_header : IsChunk header 0x4d546864 fields
+  pub is_header : IsChunk header MTHD fields
   pub are_fields : IsFields fields file.format (length file.tracks) file.division
   pub are_tracks : AreTracks file.tracks tracks
   pub parts : bytes ≡ header ++ (tracks ++ more)

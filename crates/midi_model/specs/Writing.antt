@@ -2,6 +2,7 @@
 -- where it may stand.
 use Rattle.std.specs.Prelude.{◌≡◌, ◌<◌, ◌≤◌, ◌⊎◌, ℕ, ◌+◌, ◌-◌, ◌/◌, ◌%◌, ◌^◌, List, [], ◌∷◌, ◌++◌, length, map, All, Bool, true, false, nat_lt, ◌==◌, if◌then◌else◌}
 use Rattle.std.specs.Int.{w16, w32, to_be_bytes}
+use Rattle.midi_model.specs.declared.numbers.TheConstants.{MTHD, MTRK, MOST_TRACKS}
 use Rattle.mt_base.specs.declared.event.Msg.{Msg}
 use Rattle.mt_base.specs.declared.event.Msg.TheVariants.{NoteOff, NoteOn, KeyPressure, Control, Program, Pressure, Bend}
 use Rattle.mt_base.specs.Midi.{MidiWhat, Says, SysexOf, MetaOf, Timed, is_end}
@@ -97,7 +98,7 @@ most_bytes (MetaOf kind content) = 10 + length content
 
 -- a track chunk of this content
 abbrev pub chunk_bytes : List ℕ → List ℕ
-chunk_bytes content = to_be_bytes w32 0x4d54726b ++ (to_be_bytes w32 (length content) ++ content)
+chunk_bytes content = to_be_bytes w32 MTRK ++ (to_be_bytes w32 (length content) ++ content)
 
 unfoldable pub chunks_bytes : List (List ℕ) → List ℕ
 chunks_bytes [] = []
@@ -105,7 +106,7 @@ chunks_bytes (content ∷ contents) = chunk_bytes content ++ chunks_bytes conten
 
 -- a header chunk of six bytes
 abbrev pub header_bytes : ℕ → ℕ → ℕ → List ℕ
-header_bytes format tracks division = to_be_bytes w32 0x4d546864 ++ (to_be_bytes w32 6 ++ (to_be_bytes w16 format ++ (to_be_bytes w16 tracks ++ to_be_bytes w16 division)))
+header_bytes format tracks division = to_be_bytes w32 MTHD ++ (to_be_bytes w32 6 ++ (to_be_bytes w16 format ++ (to_be_bytes w16 tracks ++ to_be_bytes w16 division)))
 
 unfoldable pub file_bytes : MidiFile → List ℕ
 file_bytes file = header_bytes file.format (length file.tracks) file.division ++ chunks_bytes (map track_bytes file.tracks)
@@ -120,7 +121,7 @@ pub record IsWritableFile (file : MidiFile) : Type 0 where
   pub tracks : All (IsWritable 0) file.tracks
   pub short : All (λ (es : List Timed). length (track_bytes es) < 2 ^ 32) file.tracks
   pub one_or_more : 0 < length file.tracks
-  pub few : length file.tracks ≤ 1024
+  pub few : length file.tracks ≤ MOST_TRACKS
   pub format_0_or_1 : file.format ≤ 1
   pub one_in_0 : file.format ≡ 0 → length file.tracks ≡ 1
   pub division : file.division < 2 ^ 16

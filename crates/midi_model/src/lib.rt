@@ -4,6 +4,7 @@
 mod bytes;
 mod fault;
 mod music;
+mod numbers;
 mod order;
 mod params;
 mod reading;
@@ -15,6 +16,9 @@ mod writing;
 pub use bytes::size_laws;
 pub use fault::{SmfKind, Stop};
 pub use music::music_laws;
+pub use numbers::{
+    END_OF_TRACK, LAST_TICK, META, MOST_BYTES, MOST_EVENTS, MOST_TRACKS, MTHD, MTRK,
+};
 pub use order::{merged_example, merged_order};
 pub use params::parameter_laws;
 pub use reading::reading_laws;
