@@ -1,7 +1,6 @@
 ghost use Rattle.std.specs.Prelude.{◌≡◌, ◌<◌, ◌≤◌, ◌+◌, ◌*◌, ◌%◌, ◌≢◌, ℕ, List, [], ◌∷◌, map, slice_set, get_or, take, length, IfSome, IfNone};
 ghost use Rattle.mt_base.specs.Midi.{MidiEvent, view};
 ghost use Rattle.midi_model.specs.Merged.{merged, IsPlayable, timed};
-ghost use Rattle.smf_read.specs.Files.{view_file};
 ghost use Rattle.smf_read.specs.Remaining.{remaining, all_of};
 ghost use Rattle.event_stream.specs.Keys.{key_of, keys_of};
 ghost use Rattle.event_stream.specs.Merges.{untracked, parts_left, merged_left, merged_whole, IsMerge};
@@ -44,9 +43,9 @@ impl<'a> Merge<'a> {
     /// At the first event of a file. Its events are playable for the file's number of tracks, and at
     /// most 2,097,152.
     pub fn new(smf: &Smf<'a>) -> Merge<'a>
-        ensures all { result.all ≡ merged (view_file smf.now) }
-        ensures rest { result.rest ≡ merged (view_file smf.now) }
-        ensures playable { IsPlayable (length (view_file smf.now).tracks) result.all }
+        ensures all { result.all ≡ merged smf.now }
+        ensures rest { result.rest ≡ merged smf.now }
+        ensures playable { IsPlayable (length smf.now.tracks) result.all }
         ensures few { length result.all ≤ 2097152 }
     {
         let tracks = smf.tracks();

@@ -1,9 +1,8 @@
 -- What the reader answers, by what the bytes spell, with the laws that `file_laws` states.
 use Rattle.std.proofs.Common.{◌≡◌, ℕ, List, Result, Ok, Err, subst}
 use Rattle.std.specs.Prelude.{IfOk, IfErr}
-use Rattle.smf_read.specs.declared.smf.Smf.{Smf}
 use Rattle.smf_read.specs.declared.fault.SmfFault.{SmfFault}
-use Rattle.smf_read.specs.Files.{Reads, IsFirst, view_file}
+use Rattle.smf_read.specs.Files.{Reads, IsFirst}
 use Rattle.midi_model.specs.declared.fault.SmfKind.{SmfKind}
 use Rattle.midi_model.specs.Faults.{FirstFault}
 use Rattle.midi_model.specs.FileText.{MidiFile, file_at}
@@ -23,14 +22,14 @@ abbrev FaultIsFirst : Type 0
 FaultIsFirst = (bytes : List ℕ) (offset : ℕ) (kind : SmfKind) → file_at bytes ≡ Err (offset, kind) → FirstFault bytes offset kind
 
 -- the same of what the program answered
-pub is_found : FileIsSpelled → (result : Result Smf SmfFault) (bytes : List ℕ) → Reads result (file_at bytes) → IfOk result (λ f. Spells bytes (view_file f))
-is_found law (Ok f) bytes reads = law bytes (view_file f) reads
+pub is_found : FileIsSpelled → (result : Result MidiFile SmfFault) (bytes : List ℕ) → Reads result (file_at bytes) → IfOk result (λ f. Spells bytes f)
+is_found law (Ok f) bytes reads = law bytes f reads
 is_found law (Err e) bytes reads = tt
 
-pub is_only : SpelledIsRead → (result : Result Smf SmfFault) (bytes : List ℕ) → Reads result (file_at bytes) → (file : MidiFile) → Spells bytes file → Reads result (Ok file)
+pub is_only : SpelledIsRead → (result : Result MidiFile SmfFault) (bytes : List ℕ) → Reads result (file_at bytes) → (file : MidiFile) → Spells bytes file → Reads result (Ok file)
 is_only law result bytes reads file is = subst (Reads result) (law bytes file is) reads
 
-pub is_first : FaultIsFirst → (result : Result Smf SmfFault) (bytes : List ℕ) → Reads result (file_at bytes) → IfErr result (λ e. IsFirst bytes e)
+pub is_first : FaultIsFirst → (result : Result MidiFile SmfFault) (bytes : List ℕ) → Reads result (file_at bytes) → IfErr result (λ e. IsFirst bytes e)
 is_first law (Ok f) bytes reads = tt
 is_first law (Err faults.Memory) bytes reads = tt
 is_first law (Err (faults.At offset kind)) bytes reads = law bytes offset kind reads

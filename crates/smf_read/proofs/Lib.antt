@@ -6,3 +6,4 @@ pub mod Tracks
 pub mod Places
 pub mod Found
 pub mod Sounds
+pub mod Quick

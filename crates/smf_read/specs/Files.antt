@@ -6,13 +6,8 @@ use Rattle.smf_read.specs.declared.fault.Halt.{Halt}
 use Rattle.smf_read.specs.declared.fault.Halt.TheVariants as halts
 use Rattle.smf_read.specs.declared.fault.SmfFault.{SmfFault}
 use Rattle.smf_read.specs.declared.fault.SmfFault.TheVariants as faults
-use Rattle.smf_read.specs.declared.smf.Smf.{Smf}
-use Rattle.smf_read.specs.Views.{content_of}
 use Rattle.midi_model.specs.Faults.{FirstFault}
-use Rattle.midi_model.specs.FileText.{MidiFile, made}
-
-abbrev pub view_file : Smf → MidiFile
-view_file f = made f.format f.division (map content_of f.contents.items)
+use Rattle.midi_model.specs.FileText.{MidiFile}
 
 -- What a reader inside gave, unless memory ran out, is what reading on lists gives.
 abbrev pub Halts : {Y : Type 0} → Halt → Result Y Stop → Type 0
@@ -24,8 +19,8 @@ Finds view (Ok x) read = read ≡ Ok (view x)
 Finds view (Err e) read = Halts e read
 
 -- The same of the file, with offsets.
-abbrev pub Reads : Result Smf SmfFault → Result MidiFile (ℕ × SmfKind) → Type 0
-Reads (Ok f) read = read ≡ Ok (view_file f)
+abbrev pub Reads : Result MidiFile SmfFault → Result MidiFile (ℕ × SmfKind) → Type 0
+Reads (Ok f) read = read ≡ Ok f
 Reads (Err faults.Memory) read = Unit {0}
 Reads (Err (faults.At offset kind)) read = read ≡ Err (offset, kind)
 

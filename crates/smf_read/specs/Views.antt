@@ -1,4 +1,5 @@
-use Rattle.std.specs.Prelude.{ℕ, List}
+-- What the program's values mean in the text of a file.
+use Rattle.std.specs.Prelude.{ℕ, ◌+◌, List, length}
 use Rattle.std.specs.Borrow.{Bor}
 use Rattle.mt_base.specs.Midi.{Timed, view_what}
 use Rattle.midi_model.specs.FileText as text
@@ -18,3 +19,7 @@ content_of bytes = bytes.now
 
 abbrev pub timed : Found → Timed
 timed f = record { tick = f.tick; what = view_what f.what }
+
+-- how many bytes two parts have together
+abbrev pub parts_len : List ℕ → List ℕ → ℕ
+parts_len xs ys = length xs + length ys

@@ -2,9 +2,10 @@ ghost use Rattle.std.specs.Prelude.{◌≡◌, ◌<◌, ◌≤◌, ◌^◌, ◌+
 ghost use Rattle.std.specs.Int.{w16, w32};
 ghost use Rattle.midi_model.specs.Reading.{Gives, Within};
 ghost use Rattle.midi_model.specs.FileText.{number, header_at, fields_at, chunk_at, next_content};
-ghost use Rattle.smf_read.specs.Views.{view_header, view_chunk};
+ghost use Rattle.smf_read.specs.Views.{view_header, view_chunk, parts_len};
 
-use midi_model::{SmfKind, Stop, reading_laws};
+use crate::stop::stop;
+use midi_model::{MOST_TRACKS, MTHD, MTRK, SmfKind, Stop, reading_laws};
 
 /// What a header says.
 #[derive(Clone, Copy, Debug)]
@@ -42,35 +43,23 @@ fn fields(size: u32, bytes: &[u8]) -> Result<(Header, &[u8]), Stop>
     requires six { 6 ≤ size }
     ensures gives { Gives view_header result (fields_at size bytes.entry.now) }
     ensures some { IfOk result (λ x. 0 < x.0.tracks) }
-    ensures few { IfOk result (λ x. x.0.tracks ≤ 1024) }
+    ensures few { IfOk result (λ x. x.0.tracks ≤ MOST_TRACKS) }
     ensures within { Within result (length bytes.entry.now) }
 {
     let format = number16(bytes);
     let behind = &bytes[2..];
     let tracks = number16(behind);
     if format == 2 {
-        return Err(Stop {
-            left: bytes.len(),
-            kind: SmfKind::Format2,
-        });
+        return Err(stop(bytes, SmfKind::Format2));
     }
     if format > 2 {
-        return Err(Stop {
-            left: bytes.len(),
-            kind: SmfKind::FormatNumber,
-        });
+        return Err(stop(bytes, SmfKind::FormatNumber));
     }
     if tracks == 0 || (format == 0 && tracks != 1) {
-        return Err(Stop {
-            left: behind.len(),
-            kind: SmfKind::BadHeader,
-        });
+        return Err(stop(behind, SmfKind::BadHeader));
     }
-    if tracks > 1024 {
-        return Err(Stop {
-            left: behind.len(),
-            kind: SmfKind::TooManyTracks,
-        });
+    if tracks > MOST_TRACKS {
+        return Err(stop(behind, SmfKind::TooManyTracks));
     }
     let division = number16(&behind[2..]);
     Ok((
@@ -88,41 +77,26 @@ fn fields(size: u32, bytes: &[u8]) -> Result<(Header, &[u8]), Stop>
 pub fn read_header(bytes: &[u8]) -> Result<(Header, &[u8]), Stop>
     ensures gives { Gives view_header result (header_at bytes.entry.now) }
     ensures some { IfOk result (λ x. 0 < x.0.tracks) }
-    ensures few { IfOk result (λ x. x.0.tracks ≤ 1024) }
+    ensures few { IfOk result (λ x. x.0.tracks ≤ MOST_TRACKS) }
     ensures within { Within result (length bytes.entry.now) }
 {
     if bytes.len() < 4 {
-        return Err(Stop {
-            left: bytes.len(),
-            kind: SmfKind::NotMidi,
-        });
+        return Err(stop(bytes, SmfKind::NotMidi));
     }
-    if number32(bytes) != 0x4d54_6864 {
-        return Err(Stop {
-            left: bytes.len(),
-            kind: SmfKind::NotMidi,
-        });
+    if number32(bytes) != MTHD {
+        return Err(stop(bytes, SmfKind::NotMidi));
     }
     if bytes.len() < 8 {
-        return Err(Stop {
-            left: 0,
-            kind: SmfKind::Truncated,
-        });
+        return Err(stop(&[], SmfKind::Truncated));
     }
     let behind = &bytes[4..];
     let size = number32(behind);
     if size < 6 {
-        return Err(Stop {
-            left: behind.len(),
-            kind: SmfKind::BadHeader,
-        });
+        return Err(stop(behind, SmfKind::BadHeader));
     }
     let content = &behind[4..];
     if content.len() < size as usize {
-        return Err(Stop {
-            left: 0,
-            kind: SmfKind::Truncated,
-        });
+        return Err(stop(&[], SmfKind::Truncated));
     }
     fields(size, content)
 }
@@ -132,23 +106,17 @@ pub fn read_header(bytes: &[u8]) -> Result<(Header, &[u8]), Stop>
 fn read_chunk(bytes: &[u8]) -> Result<(Chunk<'_>, &[u8]), Stop>
     ensures gives { Gives view_chunk result (chunk_at bytes.entry.now) }
     ensures within { Within result (length bytes.entry.now) }
-    ensures part { IfOk result (λ x. length x.0.content.now + length x.1.now + 8 ≡ length bytes.entry.now) }
+    ensures part { IfOk result (λ x. parts_len x.0.content.now x.1.now + 8 ≡ length bytes.entry.now) }
 {
     if bytes.len() < 8 {
-        return Err(Stop {
-            left: bytes.len(),
-            kind: SmfKind::MissingTrack,
-        });
+        return Err(stop(bytes, SmfKind::MissingTrack));
     }
     let name = number32(bytes);
     let behind = &bytes[4..];
     let size = number32(behind) as usize;
     let rest = &behind[4..];
     if rest.len() < size {
-        return Err(Stop {
-            left: 0,
-            kind: SmfKind::Truncated,
-        });
+        return Err(stop(&[], SmfKind::Truncated));
     }
     let (content, rest) = rest.split_at(size);
     Ok((Chunk { name, content }, rest))
@@ -158,19 +126,15 @@ fn read_chunk(bytes: &[u8]) -> Result<(Chunk<'_>, &[u8]), Stop>
 pub fn next_content(bytes: &[u8]) -> Result<(&[u8], &[u8]), Stop>
     ensures gives { Gives (λ x. x.now) result (next_content bytes.entry.now) }
     ensures within { Within result (length bytes.entry.now) }
-    ensures part { IfOk result (λ x. length x.0.now + length x.1.now ≤ length bytes.entry.now) }
+    ensures part { IfOk result (λ x. parts_len x.0.now x.1.now ≤ length bytes.entry.now) }
 {
     reading_laws();
     let mut rest = bytes;
     'chunks: loop {
-        match read_chunk(rest) {
-            Err(stop) => return Err(stop),
-            Ok((found, after)) => {
-                if found.name == 0x4d54_726b {
-                    return Ok((found.content, after));
-                }
-                rest = after;
-            }
+        let (found, after) = read_chunk(rest)?;
+        if found.name == MTRK {
+            return Ok((found.content, after));
         }
+        rest = after;
     }
 }

@@ -5,7 +5,8 @@ ghost use Rattle.midi_model.specs.Reading.{IsRunning, track_in};
 ghost use Rattle.smf_read.specs.Sound.{IsSound};
 
 use crate::reading::{event, quantity};
-use midi_model::{SmfKind, Stop, reading_laws};
+use crate::stop::stop;
+use midi_model::{END_OF_TRACK, SmfKind, Stop, reading_laws};
 use mt_base::{Event, What};
 
 /// Whether the track ends here.
@@ -13,7 +14,7 @@ fn is_end(what: &What<'_>) -> bool
     ensures { result ≡ is_end (view_what what.now) }
 {
     match what {
-        What::Meta { kind, .. } => *kind == 0x2f,
+        What::Meta { kind, .. } => *kind == END_OF_TRACK,
         _ => false,
     }
 }
@@ -40,10 +41,7 @@ pub fn fault_in(bytes: &[u8]) -> Option<Stop>
             }
         }
     }
-    Some(Stop {
-        left: 0,
-        kind: SmfKind::MissingEnd,
-    })
+    Some(stop(&[], SmfKind::MissingEnd))
 }
 
 /// A place in a track: it decodes the track's events one by one, and takes no memory.

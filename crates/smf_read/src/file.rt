@@ -5,14 +5,14 @@ ghost use Rattle.midi_model.specs.FileText.{number, header_at, fields_at, chunk_
 ghost use Rattle.midi_model.specs.FileText.{MidiFile, events_of, together};
 ghost use Rattle.midi_model.specs.Spelling.{Spells};
 ghost use Rattle.smf_read.specs.Views.{content_of, view_header, view_chunk};
-ghost use Rattle.smf_read.specs.Files.{view_file, Finds, Reads, IsFirst};
+ghost use Rattle.smf_read.specs.Files.{Finds, Reads, IsFirst};
 ghost use Rattle.smf_read.specs.Sound.{AreSound};
 
 use crate::chunk::{next_content, read_header};
 use crate::cursor::fault_in;
 use crate::fault::{Halt, SmfFault};
 use crate::smf::Smf;
-use midi_model::{Stop, file_laws, reading_laws};
+use midi_model::{MOST_BYTES, Stop, file_laws, reading_laws};
 use std::alloc::Global;
 
 /// The next track.
@@ -24,9 +24,9 @@ fn track(bytes: &[u8]) -> Result<(&[u8], &[u8]), Stop>
     let (content, rest) = next_content(bytes)?;
     match fault_in(content) {
         None => Ok((content, rest)),
-        Some(stop) => Err(Stop {
-            left: stop.left + rest.len(),
-            kind: stop.kind,
+        Some(inside) => Err(Stop {
+            left: inside.left + rest.len(),
+            kind: inside.kind,
         }),
     }
 }
@@ -35,28 +35,24 @@ fn track(bytes: &[u8]) -> Result<(&[u8], &[u8]), Stop>
 fn tracks<'a>(alloc: Global, count: u16, bytes: &'a [u8]) -> Result<(Vec<&'a [u8]>, &'a [u8]), Halt>
     ensures gives { Finds (λ x. (map content_of x.0.items, x.1.now)) result (tracks_at count bytes.entry.now) }
     ensures count { IfOk result (λ x. length x.0.items ≡ count) }
-    ensures sound { length bytes.entry.now ≤ 4194304 → IfOk result (λ x. AreSound (map content_of x.0.items)) }
+    ensures sound { length bytes.entry.now ≤ MOST_BYTES → IfOk result (λ x. AreSound (map content_of x.0.items)) }
     ensures together { IfOk result (λ x. 2 * together (map events_of (map content_of x.0.items)) ≤ length bytes.entry.now) }
 {
     reading_laws();
     let mut contents = Vec::new(alloc);
     let mut rest = bytes;
     for _ in 0..count {
-        match track(rest) {
-            Err(stop) => return Err(Halt::At(stop)),
-            Ok((content, after)) => {
-                contents.push(content)?;
-                rest = after;
-            }
-        }
+        let (content, after) = track(rest)?;
+        contents.push(content)?;
+        rest = after;
     }
     Ok((contents, rest))
 }
 
 #[tactic(auto, unfolding(midi_model::specs::FileText::all_at))]
 fn all(alloc: Global, bytes: &[u8]) -> Result<Smf<'_>, Halt>
-    requires { length bytes.now ≤ 4194304 }
-    ensures { Finds view_file result (all_at bytes.entry.now) }
+    requires { length bytes.now ≤ MOST_BYTES }
+    ensures { Finds (λ f. f) result (all_at bytes.entry.now) }
 {
     let (header, rest) = read_header(bytes)?;
     let (contents, _) = tracks(alloc, header.tracks, rest)?;
@@ -65,7 +61,7 @@ fn all(alloc: Global, bytes: &[u8]) -> Result<Smf<'_>, Halt>
 
 #[tactic(auto, unfolding(midi_model::specs::FileText::file_at))]
 fn exact(alloc: Global, bytes: &[u8]) -> Result<Smf<'_>, SmfFault>
-    requires { length bytes.now ≤ 4194304 }
+    requires { length bytes.now ≤ MOST_BYTES }
     ensures { Reads result (file_at bytes.entry.now) }
 {
     match all(alloc, bytes) {
@@ -81,9 +77,9 @@ fn exact(alloc: Global, bytes: &[u8]) -> Result<Smf<'_>, SmfFault>
 /// Reads a Standard MIDI File of at most 4,194,304 bytes: the file that the bytes spell, or their
 /// first fault.
 pub fn read_smf(alloc: Global, bytes: &[u8]) -> Result<Smf<'_>, SmfFault>
-    requires { length bytes.now ≤ 4194304 }
+    requires { length bytes.now ≤ MOST_BYTES }
     // What is read is what the bytes spell.
-    ensures found { IfOk result (λ f. Spells bytes.entry.now (view_file f)) }
+    ensures found { IfOk result (λ f. Spells bytes.entry.now (f)) }
     // What the bytes spell is read, unless memory runs out.
     ensures only { (file : MidiFile) → Spells bytes.entry.now file → Reads result (Ok file) }
     // Otherwise the answer is the bytes' first fault: what is wrong after the longest front that

@@ -7,6 +7,7 @@ mod fault;
 mod file;
 mod reading;
 mod smf;
+mod stop;
 
 pub use cursor::Cursor;
 pub use fault::SmfFault;

@@ -1,10 +1,13 @@
-ghost use Rattle.std.specs.Prelude.{◌≡◌, ◌<◌, ◌≤◌, ◌^◌, ◌+◌, ◌-◌, length, IfOk};
+ghost use Rattle.std.specs.Prelude.{◌≡◌, ◌<◌, ◌≤◌, ◌^◌, ◌+◌, ◌-◌, ◌↔◌, length, IfOk, IsTrue};
 ghost use Rattle.mt_base.specs.Midi.{view_what};
 ghost use Rattle.mt_base.specs.Valid.{IsValidMsg, IsValidWhat};
-ghost use Rattle.midi_model.specs.Reading.{Gives, Gives3, Within, Within3, room, IsLong, IsRunning, quantity_from, quantity_at, data_at, long_msg, short_msg, message_at, bytes_at, content_at, meta_at, body_at, event_at};
+ghost use Rattle.midi_model.specs.Reading.{Gives, Gives3, Within, Within3, room, IsLong, IsRunning};
+ghost use Rattle.midi_model.specs.Reading.{quantity_from, quantity_at, data_at, long_msg, short_msg};
+ghost use Rattle.midi_model.specs.Reading.{bytes_at, content_at, says_at, meta_alone_at, body_at, event_at};
 ghost use Rattle.smf_read.specs.Views.{timed};
 
-use midi_model::{SmfKind, Stop};
+use crate::stop::stop;
+use midi_model::{END_OF_TRACK, LAST_TICK, META, SmfKind, Stop};
 use mt_base::{Channel, Msg, What};
 
 /// What was read of an event.
@@ -36,18 +39,12 @@ fn quantity_from(turns: u32, before: u32, bytes: &[u8]) -> Result<(u32, &[u8]), 
     ensures small { IfOk result (λ x. x.0 < 2 ^ 28) }
 {
     match bytes {
-        [] => Err(Stop {
-            left: 0,
-            kind: SmfKind::Truncated,
-        }),
+        [] => Err(stop(&[], SmfKind::Truncated)),
         [byte, rest @ ..] => {
             if *byte < 128 {
                 Ok((before * 128 + *byte as u32, rest))
             } else if turns == 0 {
-                Err(Stop {
-                    left: bytes.len(),
-                    kind: SmfKind::BadDelta,
-                })
+                Err(stop(bytes, SmfKind::BadDelta))
             } else {
                 quantity_from(turns - 1, before * 128 + (*byte - 128) as u32, rest)
             }
@@ -57,12 +54,17 @@ fn quantity_from(turns: u32, before: u32, bytes: &[u8]) -> Result<(u32, &[u8]), 
 
 /// A variable-length quantity, and the bytes behind it.
 #[tactic(auto, unfolding(midi_model::specs::Reading::quantity_at))]
+#[inline(always)]
 pub fn quantity(bytes: &[u8]) -> Result<(u32, &[u8]), Stop>
     ensures gives { Gives (λ n. n) result (quantity_at bytes.entry.now) }
     ensures within { Within result (length bytes.entry.now) }
     ensures small { IfOk result (λ x. x.0 < 2 ^ 28) }
 {
-    quantity_from(3, 0, bytes)
+    match bytes {
+        // Most quantities have one byte.
+        [byte, rest @ ..] if *byte < 128 => Ok((*byte as u32, rest)),
+        _ => quantity_from(3, 0, bytes),
+    }
 }
 
 /// A data byte.
@@ -73,18 +75,12 @@ fn data(bytes: &[u8]) -> Result<(u8, &[u8]), Stop>
     ensures small { IfOk result (λ x. x.0 < 128) }
 {
     match bytes {
-        [] => Err(Stop {
-            left: 0,
-            kind: SmfKind::Truncated,
-        }),
+        [] => Err(stop(&[], SmfKind::Truncated)),
         [byte, rest @ ..] => {
             if *byte < 128 {
                 Ok((*byte, rest))
             } else {
-                Err(Stop {
-                    left: bytes.len(),
-                    kind: SmfKind::BadData,
-                })
+                Err(stop(bytes, SmfKind::BadData))
             }
         }
     }
@@ -151,21 +147,30 @@ fn short_msg(status: u8, d: u8) -> Msg
     }
 }
 
-/// A message whose status is known.
+/// Whether a byte is the status byte of a message with two data bytes.
+#[inline(always)]
+fn is_long(status: u8) -> bool
+    ensures { IsTrue result ↔ IsLong status }
+{
+    (status >= 0x80 && status < 0xc0) || (status >= 0xe0 && status < 0xf0)
+}
+
+/// The data bytes of a message whose status byte is known, as an event, and the running status after it.
 #[tactic(auto, unfolding(midi_model::specs::Reading::message_at))]
-fn message(status: u8, bytes: &[u8]) -> Result<(Msg, &[u8]), Stop>
+fn message(status: u8, bytes: &[u8]) -> Result<(What<'_>, u8, &[u8]), Stop>
     requires low { 128 ≤ status }
     requires high { status < 240 }
-    ensures valid { IfOk result (λ x. IsValidMsg x.0) }
-    ensures gives { Gives (λ m. m) result (message_at status bytes.entry.now) }
-    ensures within { Within result (length bytes.entry.now) }
+    ensures valid { IfOk result (λ x. IsValidWhat (view_what x.0)) }
+    ensures gives { Gives3 view_what result (says_at status bytes.entry.now) }
+    ensures within { Within3 result (length bytes.entry.now) }
+    ensures running { IfOk result (λ x. IsRunning x.1) }
 {
     let (d, rest) = data(bytes)?;
     if status >= 0xc0 && status < 0xe0 {
-        return Ok((short_msg(status, d), rest));
+        return Ok((What::Message(short_msg(status, d)), status, rest));
     }
     let (e, rest) = data(rest)?;
-    Ok((long_msg(status, d, e), rest))
+    Ok((What::Message(long_msg(status, d, e)), status, rest))
 }
 
 /// So many bytes, and those behind them.
@@ -177,10 +182,7 @@ fn bytes_of(count: u32, bytes: &[u8]) -> Result<(&[u8], &[u8]), Stop>
 {
     let count = count as usize;
     if bytes.len() < count {
-        return Err(Stop {
-            left: 0,
-            kind: SmfKind::Truncated,
-        });
+        return Err(stop(&[], SmfKind::Truncated));
     }
     Ok(bytes.split_at(count))
 }
@@ -196,34 +198,61 @@ fn content(bytes: &[u8]) -> Result<(&[u8], &[u8]), Stop>
     bytes_of(count, rest)
 }
 
-/// A meta event behind its first byte.
+/// A meta event behind its status byte; no status runs on after it.
 #[tactic(auto, unfolding(midi_model::specs::Reading::meta_at))]
-fn meta(bytes: &[u8]) -> Result<(What<'_>, &[u8]), Stop>
+fn meta(bytes: &[u8]) -> Result<(What<'_>, u8, &[u8]), Stop>
     ensures valid { IfOk result (λ x. IsValidWhat (view_what x.0)) }
-    ensures gives { Gives view_what result (meta_at bytes.entry.now) }
-    ensures within { Within result (length bytes.entry.now) }
+    ensures gives { Gives3 view_what result (meta_alone_at bytes.entry.now) }
+    ensures within { Within3 result (length bytes.entry.now) }
+    ensures running { IfOk result (λ x. IsRunning x.1) }
 {
     match bytes {
-        [] => Err(Stop {
-            left: 0,
-            kind: SmfKind::Truncated,
-        }),
+        [] => Err(stop(&[], SmfKind::Truncated)),
         [kind, rest @ ..] => {
             let (count, after) = quantity(rest)?;
-            if *kind == 0x2f && count > 0 {
-                return Err(Stop {
-                    left: rest.len(),
-                    kind: SmfKind::BadData,
-                });
+            if *kind == END_OF_TRACK && count > 0 {
+                return Err(stop(rest, SmfKind::BadData));
             }
             let (bytes, after) = bytes_of(count, after)?;
-            Ok((What::Meta { kind: *kind, bytes }, after))
+            Ok((What::Meta { kind: *kind, bytes }, 0, after))
         }
     }
 }
 
 /// An event behind its delta, and the running status after it.
 #[tactic(auto, unfolding(midi_model::specs::Reading::body_at))]
+fn any_body(running: u8, bytes: &[u8]) -> Result<(What<'_>, u8, &[u8]), Stop>
+    requires { IsRunning running }
+    ensures valid { IfOk result (λ x. IsValidWhat (view_what x.0)) }
+    ensures gives { Gives3 view_what result (body_at running bytes.entry.now) }
+    ensures within { Within3 result (length bytes.entry.now) }
+    ensures running { IfOk result (λ x. IsRunning x.1) }
+{
+    match bytes {
+        [] => Err(stop(&[], SmfKind::Truncated)),
+        [byte, rest @ ..] => {
+            let byte = *byte;
+            if byte < 0x80 {
+                if running == 0 {
+                    return Err(stop(bytes, SmfKind::NoStatus));
+                }
+                message(running, bytes)
+            } else if byte < 0xf0 {
+                message(byte, rest)
+            } else if byte == 0xf0 || byte == 0xf7 {
+                let (bytes, rest) = content(rest)?;
+                Ok((What::Sysex { lead: byte, bytes }, 0, rest))
+            } else if byte == META {
+                meta(rest)
+            } else {
+                Err(stop(bytes, SmfKind::BadStatus))
+            }
+        }
+    }
+}
+
+/// The same, with a quick way for most events: a message with two data bytes, mostly in running status.
+#[inline(always)]
 fn body(running: u8, bytes: &[u8]) -> Result<(What<'_>, u8, &[u8]), Stop>
     requires { IsRunning running }
     ensures valid { IfOk result (λ x. IsValidWhat (view_what x.0)) }
@@ -232,48 +261,19 @@ fn body(running: u8, bytes: &[u8]) -> Result<(What<'_>, u8, &[u8]), Stop>
     ensures running { IfOk result (λ x. IsRunning x.1) }
 {
     match bytes {
-        [] => Err(Stop {
-            left: 0,
-            kind: SmfKind::Truncated,
-        }),
-        [byte, rest @ ..] => {
-            let byte = *byte;
-            if byte < 0x80 {
-                if running == 0 {
-                    return Err(Stop {
-                        left: bytes.len(),
-                        kind: SmfKind::NoStatus,
-                    });
-                }
-                match message(running, bytes) {
-                    Err(stop) => Err(stop),
-                    Ok((msg, rest)) => Ok((What::Message(msg), running, rest)),
-                }
-            } else if byte < 0xf0 {
-                match message(byte, rest) {
-                    Err(stop) => Err(stop),
-                    Ok((msg, rest)) => Ok((What::Message(msg), byte, rest)),
-                }
-            } else if byte == 0xf0 || byte == 0xf7 {
-                let (bytes, rest) = content(rest)?;
-                Ok((What::Sysex { lead: byte, bytes }, 0, rest))
-            } else if byte == 0xff {
-                match meta(rest) {
-                    Err(stop) => Err(stop),
-                    Ok((what, rest)) => Ok((what, 0, rest)),
-                }
-            } else {
-                Err(Stop {
-                    left: bytes.len(),
-                    kind: SmfKind::BadStatus,
-                })
-            }
+        [d, e, rest @ ..] if *d < 128 && *e < 128 && is_long(running) => {
+            Ok((What::Message(long_msg(running, *d, *e)), running, rest))
         }
+        [status, d, e, rest @ ..] if is_long(*status) && *d < 128 && *e < 128 => {
+            Ok((What::Message(long_msg(*status, *d, *e)), *status, rest))
+        }
+        _ => any_body(running, bytes),
     }
 }
 
 /// An event, where those before it end at a tick, and the running status after it.
 #[tactic(auto, unfolding(midi_model::specs::Reading::event_at))]
+#[inline(always)]
 pub fn event(running: u8, before: u32, bytes: &[u8]) -> Result<(Found<'_>, u8, &[u8]), Stop>
     requires running { IsRunning running }
     requires before { before < 2 ^ 28 }
@@ -285,11 +285,8 @@ pub fn event(running: u8, before: u32, bytes: &[u8]) -> Result<(Found<'_>, u8, &
 {
     let (delta, rest) = quantity(bytes)?;
     let tick = before + delta;
-    if tick > 268_435_455 {
-        return Err(Stop {
-            left: bytes.len(),
-            kind: SmfKind::TrackTooLong,
-        });
+    if tick > LAST_TICK {
+        return Err(stop(bytes, SmfKind::TrackTooLong));
     }
     match body(running, rest) {
         Err(stop) => Err(stop),

@@ -1,4 +1,4 @@
-use Rattle.std.proofs.Common.{◌<◌, length, arith, ap, sym, ◌∙◌}
+use Rattle.std.proofs.Common.{◌<◌, length, arith, ap, sym, Some, ◌∙◌}
 use Rattle.std.proofs.lemmas.Bool.{eqb-true}
 use Rattle.smf_read.proofs.Steps.{nonzero}
 use Rattle.smf_read.proofs.Runs.{no_end, shorter, ends, goes_on, fails}
@@ -33,4 +33,4 @@ events-preserved c =
 pub returns-clause-exact : goal.returns-clause-exact
 returns-clause-exact c =
     let l = c.events in
-    sym (no_end l.running l.tick l.rest.now (eqb-true _ 0 (sym c.events-test.ensures))) ∙ l.invariant.told
+    ap Some c.stop.ensures ∙ sym (no_end l.running l.tick l.rest.now (eqb-true _ 0 (sym c.events-test.ensures))) ∙ l.invariant.told
