@@ -2,7 +2,6 @@ ghost use Rattle.std.specs.Prelude.{◌≡◌, ◌≤◌, length, IfOk, IfErr, O
 ghost use Rattle.scala_lines.specs.Lines.{lines_of};
 ghost use Rattle.scl_text.specs.Spelling.{ScaleText};
 ghost use Rattle.midi_model.specs.Spelling.{Spells};
-ghost use Rattle.smf_read.specs.Files.{view_file};
 ghost use Rattle.mtune_files.specs.Names.{IsHeld};
 ghost use Rattle.mtune_core.specs.Causes.{LoadCause, TextCause, SpellCause};
 
@@ -60,7 +59,7 @@ pub fn read_scale(alloc: Global, text: &[u8]) -> Result<Scale, Fault>
 /// The file of an input.
 pub fn read_input(alloc: Global, bytes: &[u8]) -> Result<Smf<'_>, Fault>
     requires { length bytes.now ≤ 4194304 }
-    ensures found { IfOk result (λ smf. Spells bytes.entry.now (view_file smf)) }
+    ensures found { IfOk result (λ smf. Spells bytes.entry.now smf) }
     ensures cause { IfErr result (λ e. SpellCause bytes.entry.now e) }
 {
     match read_smf(alloc, bytes) {
