@@ -1,5 +1,7 @@
-use Rattle.mtune_files.specs.Faults.{Faults}
+-- What the files of the system tell: how many calls were made and how many failed.
+use Rattle.std.specs.Prelude.{None, false}
+use Rattle.mtune_files.specs.Outside.{Outside}
 use Rattle.mtune.specs.declared.real.RealFiles.{RealFiles}
 
-abbrev pub faults_of : RealFiles → Faults
-faults_of f = record { scale = f.faults.scale; map = f.faults.map; input = f.faults.input; stores = f.faults.stores; says = f.faults.says }
+abbrev pub outside_of : RealFiles → Outside
+outside_of f = record { held = None; said = None; faults = f.faults; calls = f.calls; steady = false }

@@ -1,5 +1,5 @@
 use crate::writing::store;
-use mtune_files::{Files, LoadFault, SayFailed, StoreFailed, Which};
+use mtune_files::{Counts, Files, LoadFault, SayFailed, StoreFailed, Which};
 use std::alloc::Global;
 use std::fs;
 use std::fs::File;
@@ -8,21 +8,12 @@ use std::io::{Read, Write};
 /// How many bytes a turn of reading takes at most.
 const PIECE: usize = 16_384;
 
-/// How often calls of each kind failed.
-#[derive(Clone, Copy, Debug)]
-pub struct Counts {
-    pub scale: u64,
-    pub map: u64,
-    pub input: u64,
-    pub stores: u64,
-    pub says: u64,
-}
-
 /// The files of the system, and its standard output: nothing is told of what they hold.
 #[derive(Drop)]
 pub struct RealFiles {
     rt: HostRuntime,
     faults: Counts,
+    calls: Counts,
 }
 
 /// How a reading ended.
@@ -55,44 +46,19 @@ fn fill(file: &mut File, all: &mut Vec<u8>, limit: u32) -> Filled {
 }
 
 impl RealFiles {
-    ghost use Rattle.mtune.specs.Real.{faults_of};
-    ghost use Rattle.mtune_files.specs.Faults.{Rises};
-
     pub fn new(rt: HostRuntime) -> RealFiles {
         RealFiles {
             rt,
-            faults: Counts {
-                scale: 0,
-                map: 0,
-                input: 0,
-                stores: 0,
-                says: 0,
-            },
-        }
-    }
-
-    fn raise(&mut self, which: Which)
-        ensures { Rises which (faults_of self.old) (faults_of self.new) }
-    {
-        match which {
-            Which::Scale => self.faults.scale = self.faults.scale.saturating_add(1),
-            Which::Map => self.faults.map = self.faults.map.saturating_add(1),
-            Which::Input => self.faults.input = self.faults.input.saturating_add(1),
+            faults: Counts::new(),
+            calls: Counts::new(),
         }
     }
 }
 
 impl Files for RealFiles {
-    ghost use Rattle.mtune.specs.Real.{faults_of};
-    ghost use Rattle.std.specs.Prelude.{None, false};
+    ghost use Rattle.mtune.specs.Real.{outside_of};
 
-    ghost held = { λ _. None };
-
-    ghost said = { λ _. None };
-
-    ghost faults = { faults_of };
-
-    ghost steady = { λ _. false };
+    ghost outside = { outside_of };
 
     fn load(
         &mut self,
@@ -101,6 +67,7 @@ impl Files for RealFiles {
         name: &str,
         limit: u32,
     ) -> Result<Vec<u8>, LoadFault> {
+        self.calls.add_load(which);
         let mut all = Vec::new(alloc);
         let filled = match fs::open(&self.rt, name) {
             Ok(mut file) => fill(&mut file, &mut all, limit),
@@ -115,7 +82,7 @@ impl Files for RealFiles {
                 }
             }
             Filled::Failed => {
-                self.raise(which);
+                self.faults.add_load(which);
                 Err(LoadFault::Failed)
             }
             Filled::Memory => Err(LoadFault::Memory),
@@ -123,19 +90,21 @@ impl Files for RealFiles {
     }
 
     fn store(&mut self, name: &str, content: &[u8]) -> Result<(), StoreFailed> {
+        self.calls.add_store();
         if store(&self.rt, name, content).unwrap_or(false) {
             return Ok(());
         }
-        self.faults.stores = self.faults.stores.saturating_add(1);
+        self.faults.add_store();
         Err(StoreFailed)
     }
 
     fn say(&mut self, text: &[u8]) -> Result<(), SayFailed> {
+        self.calls.add_say();
         let mut out = self.rt.stdout();
         if out.write_all(text).is_ok() && out.flush().is_ok() {
             return Ok(());
         }
-        self.faults.says = self.faults.says.saturating_add(1);
+        self.faults.add_say();
         Err(SayFailed)
     }
 }

@@ -1,4 +1,4 @@
+pub mod Counts
 pub mod Names
-pub mod Faults
-pub mod Entries
+pub mod Outside
 pub mod Mem

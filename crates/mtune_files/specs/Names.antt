@@ -1,5 +1,5 @@
 -- What is held under names and what was said, each where it is told.
-use Rattle.std.specs.Prelude.{ℕ, ◌≡◌, ◌<◌, ◌++◌, List, [], length, Some, None}
+use Rattle.std.specs.Prelude.{ℕ, ◌≡◌, ◌++◌, List, [], Some, None}
 use Rattle.std.specs.Option.{option_map}
 use Rattle.std.specs.declared.option.Option.{Option}
 use Rattle.std.specs.FinMap as map
@@ -25,21 +25,6 @@ stored held name content = option_map (λ h. map.insert h name content) held
 -- what was said after a text more
 abbrev pub appended : Option (List ℕ) → List ℕ → Option (List ℕ)
 appended said text = option_map (λ t. t ++ text) said
-
--- the name has this content, where it is told
-abbrev pub IsHeld : Option Held → List ℕ → List ℕ → Type 0
-IsHeld None name content = Unit {0}
-IsHeld (Some h) name content = content_at h name ≡ Some content
-
--- the name's content is longer than the limit, where it is told
-abbrev pub IsLongerThan : Option Held → List ℕ → ℕ → Type 0
-IsLongerThan None name limit = Unit {0}
-IsLongerThan (Some h) name limit = (content : List ℕ) × (content_at h name ≡ Some content) × (limit < length content)
-
--- it is told that the name is held
-abbrev pub IsNamed : Option Held → List ℕ → Type 0
-IsNamed None name = ⊥
-IsNamed (Some h) name = (content : List ℕ) × (content_at h name ≡ Some content)
 
 -- at each other name the same is held, and it is told as before what is held
 abbrev pub IsSameBut : List ℕ → Option Held → Option Held → Type 0

@@ -1,8 +1,9 @@
-ghost use Rattle.std.specs.Prelude.{◌≡◌, ◌<◌, ◌∷◌, ◌++◌, OnOk, OnErr, [], Some, false, get_or};
-ghost use Rattle.mtune_files.specs.Entries.{held_by};
-ghost use Rattle.mtune_files.specs.Names.{content_at, stored};
-ghost use Rattle.mtune_files.specs.Faults.{counts};
+ghost use Rattle.std.specs.Prelude.{◌≡◌, ◌∷◌, ◌↔◌, ◌≤◌, ◌<◌, OnOk, OnErr, IfOk, IsErrOf, IsNone, [], false, length, take, get_or};
+ghost use Rattle.mtune_files.specs.Counts.{in_order};
+ghost use Rattle.mtune_files.specs.Names.{content_at, stored, appended};
+ghost use Rattle.mtune_files.specs.Outside.{IsHeld, IsLongerThan, IsWithin, MayFail, after_load, after_failed_load, after_store, AfterFailedStore, after_say, AfterFailedSay};
 
+use crate::counts::Counts;
 use crate::files::{Files, LoadFault, SayFailed, StoreFailed};
 use crate::which::Which;
 use mt_base::Memory;
@@ -16,14 +17,11 @@ pub struct Entry {
     pub content: Vec<u8>,
 }
 
-/// How often calls of each kind failed.
+/// A call that is to fail, by its number, and after how many bytes.
 #[derive(Clone, Copy, Debug)]
-pub struct Counts {
-    pub scale: u64,
-    pub map: u64,
-    pub input: u64,
-    pub stores: u64,
-    pub says: u64,
+pub struct Failure {
+    pub call: u32,
+    pub bytes: u32,
 }
 
 /// Files in memory, which tell all that they hold and all that was said.
@@ -37,46 +35,52 @@ pub struct MemFiles {
     entries: VecDeque<Entry>,
     told: Vec<u8>,
     faults: Counts,
-    failing: Vec<u32>,
-    calls: u32,
+    calls: Counts,
+    // the newest first
+    failing: VecDeque<Failure>,
+}
+
+/// The first bytes, at most so many.
+fn front(bytes: &[u8], most: u32) -> &[u8]
+    ensures { result.now ≡ take most bytes.now }
+{
+    if bytes.len() > most as usize {
+        &bytes[..most as usize]
+    } else {
+        bytes
+    }
 }
 
 impl MemFiles {
-    ghost use Rattle.mtune_files.specs.Mem.{faults_of, held_of, told_of, failing_of, no_faults};
-    ghost use Rattle.mtune_files.specs.Faults.{Faults, Rises, RisesStores, RisesSays};
+    ghost use Rattle.mtune_files.specs.Counts.{no_calls};
+    ghost use Rattle.mtune_files.specs.Mem.{names_of, outside_of, settings_of, next_failure};
     ghost use Rattle.mtune_files.specs.Names.{no_names};
     ghost use Rattle.std.specs.Option.{option_map};
 
-    /// Nothing is held, nothing was said, no call is set to fail.
+    /// Nothing is held, nothing was said, no call was made, and none is set to fail.
     pub fn new(alloc: Global) -> MemFiles
-        ensures held { held_of result ≡ Some no_names }
-        ensures said { told_of result ≡ Some [] }
-        ensures faults { faults_of result ≡ no_faults }
-        ensures failing { failing_of result ≡ [] }
+        ensures held { (outside_of result).held ≡ Some no_names }
+        ensures said { (outside_of result).said ≡ Some [] }
+        ensures faults { (outside_of result).faults ≡ no_calls }
+        ensures calls { (outside_of result).calls ≡ no_calls }
+        ensures settings { settings_of result ≡ [] }
     {
         MemFiles {
             alloc,
             entries: VecDeque::new(alloc),
             told: Vec::new(alloc),
-            faults: Counts {
-                scale: 0,
-                map: 0,
-                input: 0,
-                stores: 0,
-                says: 0,
-            },
-            failing: Vec::new(alloc),
-            calls: 0,
+            faults: Counts::new(),
+            calls: Counts::new(),
+            failing: VecDeque::new(alloc),
         }
     }
 
     /// Holds a content under a name, in place of what was held there.
     pub fn add(&mut self, name: &str, content: &[u8]) -> Result<(), Memory>
-        ensures held { OnOk result (held_of self.new ≡ stored (held_of self.old) name.now content.now) }
-        ensures unchanged { OnErr result (held_of self.new ≡ held_of self.old) }
-        ensures said { told_of self.new ≡ told_of self.old }
-        ensures faults { faults_of self.new ≡ faults_of self.old }
-        ensures failing { failing_of self.new ≡ failing_of self.old }
+        ensures added { OnOk result (outside_of self.new ≡ record (outside_of self.old)
+            { held = stored (outside_of self.old).held name.now content.now }) }
+        ensures unchanged { OnErr result (outside_of self.new ≡ outside_of self.old) }
+        ensures settings { settings_of self.new ≡ settings_of self.old }
     {
         let name = name.as_bytes().to_vec(self.alloc)?;
         let content = content.to_vec(self.alloc)?;
@@ -84,49 +88,34 @@ impl MemFiles {
         Ok(())
     }
 
-    /// Makes the call of this number fail.
+    /// Makes the call of this number fail, before it does anything.
     pub fn fail(&mut self, call: u32) -> Result<(), Memory>
-        ensures failing { OnOk result (failing_of self.new ≡ failing_of self.old ++ call ∷ []) }
-        ensures unchanged { OnErr result (failing_of self.new ≡ failing_of self.old) }
-        ensures held { held_of self.new ≡ held_of self.old }
-        ensures said { told_of self.new ≡ told_of self.old }
-        ensures faults { faults_of self.new ≡ faults_of self.old }
+        ensures set { OnOk result (settings_of self.new ≡ (call, 0) ∷ settings_of self.old) }
+        ensures steady { OnOk result (outside_of self.new ≡ record (outside_of self.old)
+            { steady = false }) }
+        ensures unchanged { OnErr result (outside_of self.new ≡ outside_of self.old) }
+        ensures settings { OnErr result (settings_of self.new ≡ settings_of self.old) }
     {
-        self.failing.push(call)?;
+        self.fail_after(call, 0)
+    }
+
+    /// Makes the call of this number fail after so many bytes: a store then holds the first of the
+    /// content, a say says the first of the text, and a load gives none. Of several settings for one
+    /// call the last counts.
+    pub fn fail_after(&mut self, call: u32, bytes: u32) -> Result<(), Memory>
+        ensures set { OnOk result (settings_of self.new ≡ (call, bytes) ∷ settings_of self.old) }
+        ensures steady { OnOk result (outside_of self.new ≡ record (outside_of self.old)
+            { steady = false }) }
+        ensures unchanged { OnErr result (outside_of self.new ≡ outside_of self.old) }
+        ensures settings { OnErr result (settings_of self.new ≡ settings_of self.old) }
+    {
+        self.failing.push_front(Failure { call, bytes })?;
         Ok(())
     }
 
     /// What is held at the name.
     pub fn content(&self, name: &str) -> Option<&[u8]>
-        ensures { Some (option_map (λ c. c.now) result) ≡ option_map (λ h. content_at h name.now) (held_of self.now) }
-    {
-        self.find(name)
-    }
-
-    /// What was said.
-    pub fn text(&self) -> &[u8]
-        ensures { Some result.now ≡ told_of self.now }
-    {
-        self.told.as_slice()
-    }
-
-    /// How often calls of a kind failed: 0 to 2 are loads of the scale, of the mapping and of the
-    /// input, 3 are stores, 4 are says.
-    pub fn count(&self, kind: usize) -> u64
-        requires { kind < 5 }
-        ensures { result ≡ get_or (counts (faults_of self.now)) kind 0 }
-    {
-        match kind {
-            0 => self.faults.scale,
-            1 => self.faults.map,
-            2 => self.faults.input,
-            3 => self.faults.stores,
-            _ => self.faults.says,
-        }
-    }
-
-    fn find(&self, name: &str) -> Option<&[u8]>
-        ensures { option_map (λ c. c.now) result ≡ content_at (held_by self.now.entries.items) name.now }
+        ensures { option_map (λ c. c.now) result ≡ content_at (names_of self.now) name.now }
     {
         for entry in &self.entries {
             if name.as_bytes().cmp(entry.name.as_slice()).is_eq() {
@@ -136,48 +125,40 @@ impl MemFiles {
         None
     }
 
-    /// Counts a call, and says whether it is set to fail.
-    fn is_set_to_fail(&mut self) -> bool
-        ensures never { failing_of self.old ≡ [] → result ≡ false }
-        ensures failing { failing_of self.new ≡ failing_of self.old }
-        ensures held { held_of self.new ≡ held_of self.old }
-        ensures said { told_of self.new ≡ told_of self.old }
-        ensures faults { faults_of self.new ≡ faults_of self.old }
+    /// What was said.
+    pub fn text(&self) -> &[u8]
+        ensures { Some result.now ≡ (outside_of self.now).said }
     {
-        self.calls = self.calls.saturating_add(1);
-        let call = self.calls;
-        for failing in &self.failing {
-            if *failing == call {
-                return true;
-            }
-        }
-        false
+        self.told.as_slice()
     }
 
-    fn raise(&mut self, which: Which)
-        ensures rises { Rises which (faults_of self.old) (faults_of self.new) }
-        ensures failing { failing_of self.new ≡ failing_of self.old }
-        ensures held { held_of self.new ≡ held_of self.old }
-        ensures said { told_of self.new ≡ told_of self.old }
+    /// How often calls of a kind failed: 0 to 2 are loads of the scale, of the mapping and of the
+    /// input, 3 are stores, 4 are says.
+    pub fn count(&self, kind: usize) -> u64
+        requires { kind < 5 }
+        ensures { result ≡ get_or (in_order (outside_of self.now).faults) kind 0 }
     {
-        match which {
-            Which::Scale => self.faults.scale = self.faults.scale.saturating_add(1),
-            Which::Map => self.faults.map = self.faults.map.saturating_add(1),
-            Which::Input => self.faults.input = self.faults.input.saturating_add(1),
+        self.faults.at(kind)
+    }
+
+    /// After how many bytes the next call fails, where it is set to fail.
+    fn next_failure(&self) -> Option<u32>
+        ensures { result ≡ next_failure self.now }
+    {
+        let call = self.calls.next_call();
+        for failure in &self.failing {
+            if u128::from(failure.call) == call {
+                return Some(failure.bytes);
+            }
         }
+        None
     }
 }
 
 impl Files for MemFiles {
-    ghost use Rattle.mtune_files.specs.Mem.{held_of, faults_of, told_of, is_steady};
+    ghost use Rattle.mtune_files.specs.Mem.{names_of, outside_of, next_failure, FailsToLoad, Leaves};
 
-    ghost held = { held_of };
-
-    ghost said = { told_of };
-
-    ghost faults = { faults_of };
-
-    ghost steady = { is_steady };
+    ghost outside = { outside_of };
 
     fn load(
         &mut self,
@@ -185,13 +166,30 @@ impl Files for MemFiles {
         which: Which,
         name: &str,
         limit: u32,
-    ) -> Result<Vec<u8>, LoadFault> {
-        if self.is_set_to_fail() {
-            self.raise(which);
+    ) -> Result<Vec<u8>, LoadFault>
+        ensures content { IfOk result (λ v. IsHeld (outside_of self.old) name.now v.items) }
+        ensures short { IfOk result (λ v. length v.items ≤ limit) }
+        ensures too_long { IsErrOf result LoadFault.TooLong
+            → IsLongerThan (outside_of self.old) name.now limit }
+        ensures memory { IsErrOf result LoadFault.Memory
+            → IsWithin (outside_of self.old) name.now limit }
+        ensures may_fail { IsErrOf result LoadFault.Failed
+            → MayFail (outside_of self.old) name.now }
+        ensures failed { IsErrOf result LoadFault.Failed
+            → outside_of self.new ≡ after_failed_load which (outside_of self.old) }
+        ensures loaded { ¬ IsErrOf result LoadFault.Failed
+            → outside_of self.new ≡ after_load which (outside_of self.old) }
+        // A load fails exactly where it is set to, or the name isn't held.
+        ensures fails { IsErrOf result LoadFault.Failed ↔ FailsToLoad self.old name.now }
+    {
+        let failure = self.next_failure();
+        self.calls.add_load(which);
+        if failure.is_some() {
+            self.faults.add_load(which);
             return Err(LoadFault::Failed);
         }
-        let Some(content) = self.find(name) else {
-            self.raise(which);
+        let Some(content) = self.content(name) else {
+            self.faults.add_load(which);
             return Err(LoadFault::Failed);
         };
         if content.len() > limit as usize {
@@ -200,17 +198,49 @@ impl Files for MemFiles {
         content.to_vec(alloc).map_err(|_| LoadFault::Memory)
     }
 
-    fn store(&mut self, name: &str, content: &[u8]) -> Result<(), StoreFailed> {
-        if self.is_set_to_fail() || self.add(name, content).is_err() {
-            self.faults.stores = self.faults.stores.saturating_add(1);
+    fn store(&mut self, name: &str, content: &[u8]) -> Result<(), StoreFailed>
+        ensures stored { OnOk result
+            (outside_of self.new ≡ after_store name.now content.now (outside_of self.old)) }
+        ensures failed { OnErr result
+            (AfterFailedStore name.now (outside_of self.old) (outside_of self.new)) }
+        ensures set { OnOk result (IsNone (next_failure self.old)) }
+        ensures left { OnErr result (Leaves (next_failure self.old)
+            (λ bytes. stored (outside_of self.old).held name.now (take bytes content.now))
+            (outside_of self.old).held (outside_of self.new).held) }
+    {
+        let failure = self.next_failure();
+        self.calls.add_store();
+        if let Some(bytes) = failure {
+            self.faults.add_store();
+            let _ = self.add(name, front(content, bytes));
+            return Err(StoreFailed);
+        }
+        if self.add(name, content).is_err() {
+            self.faults.add_store();
             return Err(StoreFailed);
         }
         Ok(())
     }
 
-    fn say(&mut self, text: &[u8]) -> Result<(), SayFailed> {
-        if self.is_set_to_fail() || self.told.extend_from_slice(text).is_err() {
-            self.faults.says = self.faults.says.saturating_add(1);
+    fn say(&mut self, text: &[u8]) -> Result<(), SayFailed>
+        ensures said { OnOk result
+            (outside_of self.new ≡ after_say text.now (outside_of self.old)) }
+        ensures failed { OnErr result
+            (AfterFailedSay text.now (outside_of self.old) (outside_of self.new)) }
+        ensures set { OnOk result (IsNone (next_failure self.old)) }
+        ensures left { OnErr result (Leaves (next_failure self.old)
+            (λ bytes. appended (outside_of self.old).said (take bytes text.now))
+            (outside_of self.old).said (outside_of self.new).said) }
+    {
+        let failure = self.next_failure();
+        self.calls.add_say();
+        if let Some(bytes) = failure {
+            self.faults.add_say();
+            let _ = self.told.extend_from_slice(front(text, bytes));
+            return Err(SayFailed);
+        }
+        if self.told.extend_from_slice(text).is_err() {
+            self.faults.add_say();
             return Err(SayFailed);
         }
         Ok(())

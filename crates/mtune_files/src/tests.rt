@@ -63,16 +63,19 @@ fn fails_the_calls_that_are_set(rt: HostRuntime) -> Result<(), Fail> {
     let mut files = MemFiles::new(alloc);
     files.add("a.scl", b"one")?;
     files.fail(1)?;
-    files.fail(3)?;
-    files.fail(5)?;
+    files.fail_after(3, 7)?;
+    files.fail_after(3, 2)?;
+    files.fail_after(5, 1)?;
+    files.fail_after(6, 9)?;
     let first = files.load(alloc, Which::Scale, "a.scl", 3);
     assert!(rt; matches!(first, Err(LoadFault::Failed)));
     assert!(rt; files.load(alloc, Which::Scale, "a.scl", 3).is_ok());
     assert!(rt; files.store("a.scl", b"two").is_err());
+    assert!(rt; files.content("a.scl") == Some(b"tw"));
     assert!(rt; files.say(b"x").is_ok());
-    assert!(rt; files.say(b"y").is_err());
-    assert!(rt; files.content("a.scl") == Some(b"one"));
-    assert!(rt; files.text() == b"x".as_slice());
-    assert_eq!(rt; counts(&files), [1, 0, 0, 1, 1]);
+    assert!(rt; files.say(b"yes").is_err());
+    assert!(rt; files.say(b"z").is_err());
+    assert!(rt; files.text() == b"xyz".as_slice());
+    assert_eq!(rt; counts(&files), [1, 0, 0, 1, 2]);
     Ok(())
 }

@@ -2,8 +2,8 @@ use Rattle.std.proofs.Common.{ap, sym, ◌∙◌, map as map_list}
 use Rattle.std.specs.Ordering.{nat_cmp}
 use Rattle.std.specs.Cmp.Lexicographic.{slice_cmp, nat_list_cmp_total}
 use Rattle.std.specs.FinMap.{find, get-from_entries}
-use Rattle.mtune_files.specs.Entries.{pair_of}
-use Rattle.mtune_files.proofs.mem.MemFiles.find.Goals as goal
+use Rattle.mtune_files.specs.Mem.{pair_of}
+use Rattle.mtune_files.proofs.mem.MemFiles.content.Goals as goal
 
 pub loop-entry-init : goal.loop-entry-init
 loop-entry-init c =
