@@ -1,7 +1,9 @@
 //! `mtune`: rewrites a Standard MIDI File so that an ordinary synthesizer plays it in a just or unequal scale.
 #![tactic(auto)]
 
+mod reading;
 mod real;
+mod storing;
 mod writing;
 
 use crate::real::RealFiles;

@@ -1,12 +1,9 @@
-use crate::writing::store;
+use crate::reading::read_whole;
+use crate::storing::store;
+use crate::writing::say_all;
 use mtune_files::{Counts, Files, LoadFault, SayFailed, StoreFailed, Which};
 use std::alloc::Global;
 use std::fs;
-use std::fs::File;
-use std::io::{Read, Write};
-
-/// How many bytes a turn of reading takes at most.
-const PIECE: usize = 16_384;
 
 /// The files of the system, and its standard output: nothing is told of what they hold.
 #[derive(Drop)]
@@ -14,35 +11,6 @@ pub struct RealFiles {
     rt: HostRuntime,
     faults: Counts,
     calls: Counts,
-}
-
-/// How a reading ended.
-#[derive(Drop)]
-enum Filled {
-    Whole,
-    Failed,
-    Memory,
-}
-
-/// Reads to the end, or until more than `limit` bytes came. Each turn takes at least a byte or ends.
-fn fill(file: &mut File, all: &mut Vec<u8>, limit: u32) -> Filled {
-    let mut piece = [0u8; PIECE];
-    for _ in 0..u64::from(limit) + 2 {
-        let count = match file.read(&mut piece) {
-            Ok(count) => count,
-            Err(_) => return Filled::Failed,
-        };
-        if count == 0 {
-            return Filled::Whole;
-        }
-        if all.extend_from_slice(&piece[..count]).is_err() {
-            return Filled::Memory;
-        }
-        if all.len() > limit as usize {
-            return Filled::Whole;
-        }
-    }
-    Filled::Failed
 }
 
 impl RealFiles {
@@ -68,25 +36,14 @@ impl Files for RealFiles {
         limit: u32,
     ) -> Result<Vec<u8>, LoadFault> {
         self.calls.add_load(which);
-        let mut all = Vec::new(alloc);
-        let filled = match fs::open(&self.rt, name) {
-            Ok(mut file) => fill(&mut file, &mut all, limit),
-            Err(_) => Filled::Failed,
+        let loaded = match fs::open(&self.rt, name) {
+            Ok(mut file) => read_whole(alloc, &mut file, limit),
+            Err(_) => Err(LoadFault::Failed),
         };
-        match filled {
-            Filled::Whole => {
-                if all.len() > limit as usize {
-                    Err(LoadFault::TooLong)
-                } else {
-                    Ok(all)
-                }
-            }
-            Filled::Failed => {
-                self.faults.add_load(which);
-                Err(LoadFault::Failed)
-            }
-            Filled::Memory => Err(LoadFault::Memory),
+        if matches!(loaded, Err(LoadFault::Failed)) {
+            self.faults.add_load(which);
         }
+        loaded
     }
 
     fn store(&mut self, name: &str, content: &[u8]) -> Result<(), StoreFailed> {
@@ -100,8 +57,7 @@ impl Files for RealFiles {
 
     fn say(&mut self, text: &[u8]) -> Result<(), SayFailed> {
         self.calls.add_say();
-        let mut out = self.rt.stdout();
-        if out.write_all(text).is_ok() && out.flush().is_ok() {
+        if say_all(&mut self.rt.stdout(), text) {
             return Ok(());
         }
         self.faults.add_say();
