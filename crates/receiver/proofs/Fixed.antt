@@ -1,12 +1,13 @@
 -- The four parameters that are kept apart, among all parameters.
-use Rattle.std.proofs.Common.{◌≡◌, ◌≢◌, ℕ, zero, suc, ◌<◌, ◌≤◌, List, [], ◌∷◌, true, false, ◌||◌, nat_eq, nat_lt, length, filter, get_or, set, refl, ap, sym, ◌∙◌, arith, inl, inr}
+use Rattle.std.proofs.Common.{◌≡◌, ◌≢◌, ℕ, zero, suc, ◌<◌, List, [], ◌∷◌, true, false, ◌||◌, nat_eq, nat_lt, length, filter, get_or, set, refl, ap, sym, ◌∙◌, arith, inl, inr}
 use Rattle.std.proofs.lemmas.Bool.{eqb-true, lt-ltb, ne_eqb}
 use Rattle.midi_model.specs.Params.{Parameter, Entry, rank, value_of, put, rpn, counts}
 use Rattle.midi_model.specs.ParameterLaws.{IsSmall}
+use Rattle.midi_model.specs.WellFormed.{IsEntered}
 use Rattle.receiver.specs.Kept.{is_canonical, is_other, are_others, is_apart}
 use Rattle.receiver.specs.State.{params_of}
 use Rattle.receiver.proofs.Laws.{Laws, either}
-use Rattle.receiver.proofs.Tidy.{Tidy, tidy_put, commute, twice, value_here, not_counted, all_counted, canonical_from, small_from, both, others_put}
+use Rattle.receiver.proofs.Tidy.{Tidy, tidy_put, commute, twice, value_here, not_counted, all_counted, canonical_from, small_from, both, others_put, not_program, not_zone, entered_to}
 
 small_rpn : (n : ℕ) → n < 128 → IsSmall (rpn n)
 small_rpn n h = record { high = omega arith; low = h }
@@ -41,8 +42,12 @@ tidy3 l d es t = tidy_put l (rpn 5) d es s5 t
 tidy2 : (l : Laws) (c d : ℕ × ℕ) (es : List Entry) → Tidy es → Tidy (two c d es)
 tidy2 l c d es t = tidy_put l (rpn 2) c (three d es) s2 (tidy3 l d es t)
 
-tidy1 : (l : Laws) (b c d : ℕ × ℕ) (es : List Entry) → Tidy es → Tidy (one b c d es)
+pub tidy1 : (l : Laws) (b c d : ℕ × ℕ) (es : List Entry) → Tidy es → Tidy (one b c d es)
 tidy1 l b c d es t = tidy_put l (rpn 1) b (two c d es) s1 (tidy2 l c d es t)
+
+-- all parameters are in order, each number once
+pub tidy_all : (l : Laws) (fixed : List (ℕ × ℕ)) (es : List Entry) → Tidy es → Tidy (params_of fixed es)
+tidy_all l fixed es t = tidy_put l (rpn 0) (get_or fixed 0 (0, 0)) (one (get_or fixed 1 (0, 0)) (get_or fixed 2 (0, 0)) (get_or fixed 3 (0, 0)) es) s0 (tidy1 l (get_or fixed 1 (0, 0)) (get_or fixed 2 (0, 0)) (get_or fixed 3 (0, 0)) es t)
 
 abbrev z : ℕ × ℕ
 z = (0, 0)
@@ -173,11 +178,9 @@ counts_own p v o h k = pick (rank p) refl
     pick (suc (suc (suc (suc (suc (suc zero)))))) e = absurd (k e)
     pick (suc (suc (suc (suc (suc (suc (suc n))))))) e = rw (lt-ltb 6 (suc (suc (suc (suc (suc (suc (suc n))))))) (omega arith)) refl
 
-pub is_other_own : (p : Parameter) (v : ℕ × ℕ) → IsOwn p → rank p ≢ 3 → rank p ≢ 6 → p.high ≤ 127 → p.low ≤ 127 → v.0 ≤ 127 → v.1 ≤ 127 → is_other (record { parameter = p; value = v }) ≡ true
-is_other_own p v o h k a b c d =
-    both (counts (record { parameter = p; value = v })) _ (counts_own p v o h k)
-    (both _ _ (both _ _ (lt-ltb p.high 128 (omega (arith, a))) (lt-ltb p.low 128 (omega (arith, b))))
-    (both _ _ (lt-ltb v.0 128 (omega (arith, c))) (lt-ltb v.1 128 (omega (arith, d)))))
+pub is_other_own : (p : Parameter) (v : ℕ × ℕ) → IsOwn p → IsEntered (record { parameter = p; value = v }) → is_other (record { parameter = p; value = v }) ≡ true
+is_other_own p v o h =
+    both (counts (record { parameter = p; value = v })) _ (counts_own p v o (not_program p h.settable) (not_zone p h.settable)) (entered_to _ h)
 
 pub own_from : (p : Parameter) → is_apart (rank p) ≡ false → IsOwn p
 own_from p h = record {
@@ -207,11 +210,11 @@ pub counted_apart : (fixed : List (ℕ × ℕ)) (es : List Entry) (p : Parameter
     → length (filter counts (put p v (params_of fixed es))) ≡ length es
 counted_apart fixed es p v o h = ap length (not_counted p v (params_of fixed es) (apart_uncounted p v h)) ∙ counted_are fixed es o
 
-pub counted_own : (l : Laws) (fixed : List (ℕ × ℕ)) (es : List Entry) (p : Parameter) (v : ℕ × ℕ) → is_canonical es ≡ true → are_others es ≡ true → IsOwn p → rank p ≢ 3 → rank p ≢ 6 → p.high ≤ 127 → p.low ≤ 127 → v.0 ≤ 127 → v.1 ≤ 127
+pub counted_own : (l : Laws) (fixed : List (ℕ × ℕ)) (es : List Entry) (p : Parameter) (v : ℕ × ℕ) → is_canonical es ≡ true → are_others es ≡ true → IsOwn p → IsEntered (record { parameter = p; value = v })
     → length (filter counts (put p v (params_of fixed es))) ≡ length (put p v es)
-counted_own l fixed es p v c o w h k a b x y =
-    ap (λ ps. length (filter counts ps)) (sym (set_own l fixed es p v (tidy_others es c o) (record { high = omega (arith, a); low = omega (arith, b) }) w))
-    ∙ counted_are fixed (put p v es) (others_put p v es (is_other_own p v w h k a b x y) o)
+counted_own l fixed es p v c o w h =
+    ap (λ ps. length (filter counts ps)) (sym (set_own l fixed es p v (tidy_others es c o) h.small w))
+    ∙ counted_are fixed (put p v es) (others_put p v es (is_other_own p v w h) o)
 
 -- the last of the four
 pub apart_last : (r : ℕ) → is_apart r ≡ true → r ≢ 0 → r ≢ 1 → r ≢ 2 → r ≡ 5

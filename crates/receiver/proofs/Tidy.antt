@@ -1,10 +1,12 @@
 -- The list of parameters as it is kept: the tests of it and what they say, and that a parameter put into it keeps them.
-use Rattle.std.proofs.Common.{◌≡◌, ◌≢◌, ℕ, ◌<◌, List, [], ◌∷◌, Bool, true, false, cond, not, ◌&&◌, ◌||◌, nat_eq, nat_lt, filter, refl, ap, sym, ◌∙◌, ◌⊎◌, inl, inr, arith, subst}
+use Rattle.std.proofs.Common.{◌≡◌, ◌≢◌, ℕ, ◌+◌, ◌<◌, ◌≤◌, length, List, [], ◌∷◌, Bool, true, false, cond, not, ◌&&◌, ◌||◌, nat_eq, nat_lt, filter, refl, ap, sym, ◌∙◌, ◌⊎◌, inl, inr, arith, subst}
 use Rattle.std.specs.List.{AllByRecursion}
 use Rattle.std.proofs.lemmas.Bool.{cases_lt, ltb-true, lt-ltb, eqb-true, eqb-false}
 use Rattle.midi_model.specs.Params.{Parameter, Entry, rank, pair_eq, default_value, value_of, with_front, put, IsAbove, IsCanonical, counts}
 use Rattle.midi_model.specs.ParameterLaws.{IsSmall, AreSmall}
-use Rattle.receiver.specs.Kept.{is_above, is_canonical, is_low_value, is_other, are_others}
+use Rattle.midi_model.specs.Channel.{target_in}
+use Rattle.midi_model.specs.WellFormed.{is_value, is_settable, IsEntered}
+use Rattle.receiver.specs.Kept.{is_above, is_canonical, is_entered, is_other, are_others}
 use Rattle.receiver.proofs.Laws.{Laws, either, standard_by}
 use Rattle.receiver.proofs.Putting.{put_under, put_on, put_over}
 
@@ -97,14 +99,51 @@ others_put p v es h a = others_to (put p v es) (each_put is_other p v es h (othe
 pub ordered_put : (l : Laws) (p : Parameter) (v : ℕ × ℕ) (es : List Entry) → is_canonical es ≡ true → is_canonical (put p v es) ≡ true
 ordered_put l p v es h = canonical_to (put p v es) (l.form p v es (canonical_from es h))
 
-small_of : (e : Entry) → is_other e ≡ true → IsSmall e.parameter
-small_of e h =
+-- an entry that data entry can make, and the test of it
+pub entered_from : (e : Entry) → is_entered e ≡ true → IsEntered e
+entered_from e h =
+    let t = is_settable e.parameter in
     let a = nat_lt e.parameter.high 128 in
     let b = nat_lt e.parameter.low 128 in
-    let w = is_low_value e in
-    let r = right (counts e) ((a && b) && w) h in
-    let s = left (a && b) w r in
-    record { high = ltb-true e.parameter.high 128 (left a b s); low = ltb-true e.parameter.low 128 (right a b s) }
+    let c = nat_lt e.value.0 128 in
+    let d = nat_lt e.value.1 128 in
+    let r = right t ((a && b) && (c && d)) h in
+    let s = left (a && b) (c && d) r in
+    let w = right (a && b) (c && d) r in
+    let high = ltb-true e.value.0 128 (left c d w) in
+    let low = ltb-true e.value.1 128 (right c d w) in
+    record {
+      small = record { high = ltb-true e.parameter.high 128 (left a b s); low = ltb-true e.parameter.low 128 (right a b s) };
+      settable = left t ((a && b) && (c && d)) h;
+      high = omega (arith, high);
+      low = omega (arith, low);
+    }
+
+pub entered_to : (e : Entry) → IsEntered e → is_entered e ≡ true
+entered_to e h =
+    both (is_settable e.parameter) _ h.settable
+    (both _ _ (both _ _ (lt-ltb e.parameter.high 128 h.small.high) (lt-ltb e.parameter.low 128 h.small.low))
+    (both _ _ (lt-ltb e.value.0 128 (omega (arith, h.high))) (lt-ltb e.value.1 128 (omega (arith, h.low)))))
+
+-- neither the tuning program, RPN 3, nor a zone's size, RPN 6
+not_of : (registered : Bool) (high low n : ℕ) → is_value (target_in true (0, n)) ≡ false → n < 128
+    → is_settable (record { registered = registered; high = high; low = low }) ≡ true → rank (record { registered = registered; high = high; low = low }) ≢ n
+not_of false high low n z few t e = omega (arith, few, e)
+not_of true high low n z few t e =
+    let h : high ≡ 0 = omega (arith, few, e) in
+    let l : low ≡ n = omega (arith, few, e, h) in
+    let same : is_value (target_in true (high, low)) ≡ is_value (target_in true (0, n)) = ap (λ x. is_value (target_in true (x, low))) h ∙ ap (λ x. is_value (target_in true (0, x))) l in
+    let f : true ≡ false = sym t ∙ same ∙ z in
+    absurd cc
+
+pub not_program : (p : Parameter) → is_settable p ≡ true → rank p ≢ 3
+not_program p t = not_of p.registered p.high p.low 3 refl (omega arith) t
+
+pub not_zone : (p : Parameter) → is_settable p ≡ true → rank p ≢ 6
+not_zone p t = not_of p.registered p.high p.low 6 refl (omega arith) t
+
+small_of : (e : Entry) → is_other e ≡ true → IsSmall e.parameter
+small_of e h = (entered_from e (right (counts e) (is_entered e) h)).small
 
 pub small_from : (es : List Entry) → are_others es ≡ true → AreSmall es
 small_from [] h = tt
@@ -198,6 +237,28 @@ not_counted p v (e ∷ es) h = elim (stands p e) [
 pub all_counted : (es : List Entry) → are_others es ≡ true → filter counts es ≡ es
 all_counted [] h = refl
 all_counted (e ∷ es) h =
-    let w = (nat_lt e.parameter.high 128 && nat_lt e.parameter.low 128) && is_low_value e in
-    let c = left (counts e) w (left (is_other e) (are_others es) h) in
+    let c = left (counts e) (is_entered e) (left (is_other e) (are_others es) h) in
     ap (λ t. cond t (e ∷ filter counts es) (filter counts es)) c ∙ ap (λ r. e ∷ r) (all_counted es (right (is_other e) (are_others es) h))
+
+-- a value makes the list longer by one at most
+length_front : (p : Parameter) (v : ℕ × ℕ) (es : List Entry) → length (with_front p v es) ≤ length es + 1
+length_front p v es = pick (pair_eq v (default_value p))
+  where
+    pick : (b : Bool) → length (cond b es (record { parameter = p; value = v } ∷ es)) ≤ length es + 1
+    pick true = omega arith
+    pick false = omega arith
+
+pub length_put : (p : Parameter) (v : ℕ × ℕ) (es : List Entry) → length (put p v es) ≤ length es + 1
+length_put p v [] = length_front p v []
+length_put p v (e ∷ es) =
+    let P : List Entry → Type 0 = λ x. length x ≤ length es + 2 in
+    let h = length_put p v es in
+    let f = length_front p v es in
+    let g = length_front p v (e ∷ es) in
+    subst (λ n. length (put p v (e ∷ es)) ≤ n) (omega arith) (elim (stands p e) [
+      | inl k ↦ subst P (sym (put_under p v e es k)) (omega (arith, h))
+      | inr s ↦ elim s [
+        | inl k ↦ subst P (sym (put_on p v e es k)) (omega (arith, f))
+        | inr k ↦ subst P (sym (put_over p v e es k)) (omega (arith, g))
+      ]
+    ])

@@ -3,7 +3,7 @@ use Rattle.std.specs.Prelude.{ℕ, List, Option, Some, get_or}
 use Rattle.mt_base.specs.declared.event.Msg.{Msg}
 use Rattle.mt_base.specs.declared.event.Msg.TheVariants.{Control}
 use Rattle.midi_model.specs.Params.{Entry, rpn, put}
-use Rattle.midi_model.specs.Channel.{Channel, Role, EntryHigh, role, Target, TuningProgram, target}
+use Rattle.midi_model.specs.Channel.{Channel, State, Role, EntryHigh, role, Target, TuningProgram, target}
 use Rattle.receiver.specs.Params.{entries_of}
 use Rattle.receiver.specs.declared.state.ChannelState.{ChannelState}
 
@@ -21,6 +21,10 @@ own_of s = record {
   bend = s.bend;
   pressure = s.pressure;
 }
+
+-- the channel with the pressures of its keys
+abbrev pub state_of : ChannelState → State
+state_of s = record { own = own_of s; keys = s.keys.items }
 
 -- the tuning program that a channel has selected after a message to it (MIDI Tuning Standard)
 abbrev pub program_chosen : ℕ → Target → Option ℕ → Option ℕ

@@ -3,6 +3,7 @@
 #![tactic(auto)]
 
 mod ends;
+mod entry;
 mod keys;
 mod note;
 mod others;
@@ -12,10 +13,12 @@ mod playing;
 mod receiver;
 mod role;
 mod state;
+mod taking;
 #[cfg(test)]
 mod tests;
 mod tunings;
 mod turn;
+mod values;
 mod zones;
 
 pub use ends::Ends;

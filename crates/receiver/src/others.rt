@@ -26,8 +26,8 @@ fn place(others: &[Param], rank: u16) -> Result<usize, usize>
 }
 
 /// Gives a parameter its value in a list in the order of ranks, which holds no default.
-pub(crate) fn put_in(others: &mut ArrayVec<Param, 16>, param: Param)
-    requires { length (put (parameter_of param) param.value (entries_of others.old.items)) ≤ 16 }
+pub(crate) fn put_in<const N: usize>(others: &mut ArrayVec<Param, N>, param: Param)
+    requires { length (put (parameter_of param) param.value (entries_of others.old.items)) ≤ N }
     ensures { entries_of others.new.items ≡ put (parameter_of param) param.value (entries_of others.old.items) }
 {
     match place(others.as_slice(), param.rank()) {

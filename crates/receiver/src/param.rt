@@ -1,10 +1,10 @@
 ghost use Rattle.std.specs.Prelude.{◌≡◌, ◌<◌, ◌≤◌, ◌^◌};
-ghost use Rattle.midi_model.specs.Params.{rank, default_value, pair_eq};
+ghost use Rattle.midi_model.specs.Params.{rank, default_value, pair_eq, rpn};
 ghost use Rattle.receiver.specs.Kept.{is_apart};
 ghost use Rattle.receiver.specs.Params.{numbered, parameter_of};
 
-/// A registered (RPN) or non-registered (NRPN) parameter by its number's high and low byte, and its value:
-/// the high and the low byte of data entry.
+/// A registered (RPN) or non-registered (NRPN) parameter by its number's MSB and LSB, and its value: the MSB
+/// and the LSB of data entry.
 #[derive(Clone, Copy, Debug, Default)]
 pub struct Param {
     pub registered: bool,
@@ -13,7 +13,7 @@ pub struct Param {
     pub value: (u8, u8),
 }
 
-/// Where a parameter stands in the order of all: registered ones first, then by high and low byte.
+/// Where a parameter stands in the order of all: registered ones first, then by MSB and LSB.
 pub(crate) fn rank_of(registered: bool, high: u8, low: u8) -> u16
     ensures { result ≡ rank (numbered registered high low) }
 {
@@ -40,6 +40,19 @@ pub(crate) fn is_kept_apart(rank: u16) -> bool
 }
 
 impl Param {
+    /// The registered parameter of this LSB, its MSB being 0, with a value.
+    pub(crate) fn registered(low: u8, value: (u8, u8)) -> Param
+        ensures parameter { parameter_of result ≡ rpn low }
+        ensures value { result.value ≡ value }
+    {
+        Param {
+            registered: true,
+            high: 0,
+            low,
+            value,
+        }
+    }
+
     /// Its place in the order of all parameters.
     pub(crate) fn rank(&self) -> u16
         ensures { result ≡ rank (parameter_of self.now) }

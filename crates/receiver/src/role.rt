@@ -8,16 +8,23 @@ ghost use Rattle.receiver.specs.Roles.{role_of, target_of, HasValue};
 pub enum Purpose {
     /// Its value is kept.
     Keep,
-    DataHigh,
-    DataLow,
-    NrpnLowByte,
-    NrpnHighByte,
-    RpnLowByte,
-    RpnHighByte,
+    DataEntryMsb,
+    DataEntryLsb,
+    NrpnLsb,
+    NrpnMsb,
+    RpnLsb,
+    RpnMsb,
     SoundOff,
     Reset,
     NotesOff,
     Nothing,
+}
+
+/// The most and the least significant byte of a value of fourteen bits.
+#[derive(Clone, Copy, Debug, PartialEq, Eq)]
+pub enum DataByte {
+    Msb,
+    Lsb,
 }
 
 /// What data entry writes to.
@@ -37,19 +44,19 @@ pub(crate) fn purpose_of(number: u8) -> Purpose
     ensures kept { result ≡ Keep → number ≤ 119 }
 {
     if number == 6 {
-        Purpose::DataHigh
+        Purpose::DataEntryMsb
     } else if number == 38 {
-        Purpose::DataLow
+        Purpose::DataEntryLsb
     } else if number == 96 || number == 97 {
         Purpose::Nothing
     } else if number == 98 {
-        Purpose::NrpnLowByte
+        Purpose::NrpnLsb
     } else if number == 99 {
-        Purpose::NrpnHighByte
+        Purpose::NrpnMsb
     } else if number == 100 {
-        Purpose::RpnLowByte
+        Purpose::RpnLsb
     } else if number == 101 {
-        Purpose::RpnHighByte
+        Purpose::RpnMsb
     } else if number <= 119 {
         Purpose::Keep
     } else if number == 120 {

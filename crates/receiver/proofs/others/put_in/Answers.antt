@@ -5,17 +5,17 @@ use Rattle.receiver.proofs.Putting.{moved_found, moved_absent, length_other, fou
 use Rattle.receiver.proofs.others.put_in.Goals as goal
 
 pub insert-requires-then-not-is_default-2 : goal.insert-requires-then-not-is_default-2
-insert-requires-then-not-is_default-2 c =
+insert-requires-then-not-is_default-2 g c =
     let os = c.args.others.now.items in
     let x = c.args.param in
     let f = moved_absent _ os _ _ c.in-Err.at c.as_slice.ensures.value c.rank.ensures (c.in-Err.ensures.bound, c.in-Err.ensures.above, c.in-Err.ensures.below) in
     let d : c.is_default-in-Err.result ≡ false = search rules in
     let n = length_other os c.in-Err.at x f.2 f.0 f.1 (sym c.is_default-in-Err.ensures ∙ d) in
-    let few : length os < 16 = omega (arith, n, c.requires) in
+    let few : length os < g.row.N = omega (arith, n, c.requires) in
     (omega arith, (f.0, few))
 
 pub returns-then-not-is_default : goal.returns-then-not-is_default
-returns-then-not-is_default c =
+returns-then-not-is_default g c =
     let os = c.args.others.now.items in
     let x = c.args.param in
     let f = moved_found _ os _ _ c.in-Ok.at c.as_slice.ensures.value c.rank.ensures (c.in-Ok.ensures.found.0, c.in-Ok.ensures.found.1, c.in-Ok.ensures.before) in
@@ -24,7 +24,7 @@ returns-then-not-is_default c =
     ∙ found_other os c.in-Ok.at x f.2 f.0 f.1 (sym c.is_default.ensures ∙ d)
 
 pub returns-else-not-is_default : goal.returns-else-not-is_default
-returns-else-not-is_default c =
+returns-else-not-is_default g c =
     let os = c.args.others.now.items in
     let x = c.args.param in
     let f = moved_found _ os _ _ c.in-Ok.at c.as_slice.ensures.value c.rank.ensures (c.in-Ok.ensures.found.0, c.in-Ok.ensures.found.1, c.in-Ok.ensures.before) in
@@ -33,7 +33,7 @@ returns-else-not-is_default c =
     ∙ found_default os c.in-Ok.at x f.2 f.0 f.1 (sym c.is_default.ensures ∙ d)
 
 pub returns-then-not-is_default-2 : goal.returns-then-not-is_default-2
-returns-then-not-is_default-2 c =
+returns-then-not-is_default-2 g c =
     let os = c.args.others.now.items in
     let x = c.args.param in
     let f = moved_absent _ os _ _ c.in-Err.at c.as_slice.ensures.value c.rank.ensures (c.in-Err.ensures.bound, c.in-Err.ensures.above, c.in-Err.ensures.below) in
@@ -42,7 +42,7 @@ returns-then-not-is_default-2 c =
     ∙ absent_other os c.in-Err.at x f.2 f.0 f.1 (sym c.is_default-in-Err.ensures ∙ d)
 
 pub returns-else-not-is_default-2 : goal.returns-else-not-is_default-2
-returns-else-not-is_default-2 c =
+returns-else-not-is_default-2 g c =
     let os = c.args.others.now.items in
     let x = c.args.param in
     let f = moved_absent _ os _ _ c.in-Err.at c.as_slice.ensures.value c.rank.ensures (c.in-Err.ensures.bound, c.in-Err.ensures.above, c.in-Err.ensures.below) in

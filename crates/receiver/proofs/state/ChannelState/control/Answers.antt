@@ -1,23 +1,20 @@
-use Rattle.std.proofs.Common.{ap, ◌∙◌}
-use Rattle.receiver.specs.Kept.{are_low}
-use Rattle.receiver.proofs.Low.{low_set}
+use Rattle.std.proofs.Common.{ap, sym, ◌∙◌}
+use Rattle.midi_model.specs.WellFormed.{is_kept}
+use Rattle.receiver.specs.Roles.{role_of}
+use Rattle.receiver.specs.Kept.{are_low, only_stored}
+use Rattle.receiver.proofs.Low.{low_set, all_stored}
 use Rattle.receiver.proofs.state.ChannelState.control.Goals as goal
 
-pub invariant_of-self : goal.invariant_of-self
-invariant_of-self c =
+pub invariant_of-self-clause-controls_over : goal.invariant_of-self-clause-controls_over
+invariant_of-self-clause-controls_over c = c.set.ensures.defaults ∙ c.args.self.now.controls_over
+
+pub invariant_of-self-clause-only_stored : goal.invariant_of-self-clause-only_stored
+invariant_of-self-clause-only_stored c =
     let s = c.args.self.now in
-    record {
-      controls_over = c.set.ensures.defaults ∙ s.controls_over;
-      keys_over = s.keys_over;
-      ordered = s.ordered;
-      others_fit = s.others_fit;
-      rpn_fits = s.rpn_fits;
-      nrpn_fits = s.nrpn_fits;
-      controls_fit = ap are_low c.set.ensures.items ∙ low_set s.controls.items c.args.number c.args.value c.requires.value s.controls_fit;
-      keys_fit = s.keys_fit;
-      fixed_fit = s.fixed_fit;
-      tuning_fits = s.tuning_fits;
-      voice_fits = s.voice_fits;
-      bend_fits = s.bend_fits;
-      pressure_fits = s.pressure_fits;
-    }
+    ap (only_stored 0) c.set.ensures.items
+    ∙ all_stored s.controls.items c.args.number c.args.value (ap is_kept (sym c.purpose_of.ensures.role ∙ ap role_of c.in-Keep.is)) s.only_stored
+
+pub invariant_of-self-clause-controls_fit : goal.invariant_of-self-clause-controls_fit
+invariant_of-self-clause-controls_fit c =
+    let s = c.args.self.now in
+    ap are_low c.set.ensures.items ∙ low_set s.controls.items c.args.number c.args.value c.requires.value s.controls_fit

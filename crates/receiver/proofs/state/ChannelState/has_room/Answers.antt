@@ -23,5 +23,5 @@ returns-else-is_kept_apart c =
     let s = c.args.self.now in
     let x = c.args.param in
     let h = ap is_apart (sym c.rank.ensures) ∙ sym c.is_kept_apart.ensures ∙ c.if-is_kept_apart.false in
-    let n = counted_own l s.fixed (entries_of s.others.items) (parameter_of x) x.value s.ordered s.others_fit (own_from (parameter_of x) h) c.requires.no_program c.requires.no_zone c.requires.high c.requires.low c.requires.value_high c.requires.value_low in
+    let n = counted_own l s.fixed (entries_of s.others.items) (parameter_of x) x.value s.ordered s.others_fit (own_from (parameter_of x) h) c.requires.entered in
     (λ t. (let k = c.has_room.ensures.0 t in omega (arith, n, k)), λ t. c.has_room.ensures.1 (omega (arith, n, t)))

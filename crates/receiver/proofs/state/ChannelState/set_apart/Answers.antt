@@ -1,4 +1,4 @@
-use Rattle.std.proofs.Common.{◌<◌, length, arith, ◌∙◌, sym, ap, rules}
+use Rattle.std.proofs.Common.{◌<◌, length, ◌∙◌, sym, ap, rules}
 use Rattle.midi_model.specs.Params.{rank}
 use Rattle.midi_model.specs.ParameterLaws.{IsSmall}
 use Rattle.receiver.specs.Params.{entries_of, parameter_of}
@@ -16,7 +16,7 @@ returns-then-rank-eq0-clause-own c =
     let x = c.args.param in
     let es = entries_of s.others.items in
     let few : 0 < length s.fixed = search rules in
-    let small : IsSmall (parameter_of x) = record { high = omega (arith, c.requires.high); low = omega (arith, c.requires.low) } in
+    let small : IsSmall (parameter_of x) = c.requires.entered.small in
     ap (λ ps. record (own_of s) { params = ps }) (set_0 l s.fixed es (parameter_of x) x.value few (tidy_others es s.ordered s.others_fit) small (sym c.rank-rank.ensures ∙ c.if-rank-eq0.true))
 
 pub returns-then-rank-eq1-clause-own : goal.returns-then-rank-eq1-clause-own
@@ -27,7 +27,7 @@ returns-then-rank-eq1-clause-own c =
     let x = c.args.param in
     let es = entries_of s.others.items in
     let few : 1 < length s.fixed = search rules in
-    let small : IsSmall (parameter_of x) = record { high = omega (arith, c.requires.high); low = omega (arith, c.requires.low) } in
+    let small : IsSmall (parameter_of x) = c.requires.entered.small in
     ap (λ ps. record (own_of s) { params = ps }) (set_1 l s.fixed es (parameter_of x) x.value few (tidy_others es s.ordered s.others_fit) small (sym c.rank-rank.ensures ∙ c.if-rank-eq1.true))
 
 pub returns-then-rank-eq2-clause-own : goal.returns-then-rank-eq2-clause-own
@@ -38,7 +38,7 @@ returns-then-rank-eq2-clause-own c =
     let x = c.args.param in
     let es = entries_of s.others.items in
     let few : 2 < length s.fixed = search rules in
-    let small : IsSmall (parameter_of x) = record { high = omega (arith, c.requires.high); low = omega (arith, c.requires.low) } in
+    let small : IsSmall (parameter_of x) = c.requires.entered.small in
     ap (λ ps. record (own_of s) { params = ps }) (set_2 l s.fixed es (parameter_of x) x.value few (tidy_others es s.ordered s.others_fit) small (sym c.rank-rank.ensures ∙ c.if-rank-eq2.true))
 
 pub returns-else-rank-eq2-clause-own : goal.returns-else-rank-eq2-clause-own
@@ -49,86 +49,22 @@ returns-else-rank-eq2-clause-own c =
     let x = c.args.param in
     let es = entries_of s.others.items in
     let few : 3 < length s.fixed = search rules in
-    let small : IsSmall (parameter_of x) = record { high = omega (arith, c.requires.high); low = omega (arith, c.requires.low) } in
+    let small : IsSmall (parameter_of x) = c.requires.entered.small in
     let last = apart_last (rank (parameter_of x)) c.requires.apart (λ e. c.if-rank-eq0.false (c.rank-rank.ensures ∙ e)) (λ e. c.if-rank-eq1.false (c.rank-rank.ensures ∙ e)) (λ e. c.if-rank-eq2.false (c.rank-rank.ensures ∙ e)) in
     ap (λ ps. record (own_of s) { params = ps }) (set_3 l s.fixed es (parameter_of x) x.value few (tidy_others es s.ordered s.others_fit) small last)
 
-pub invariant_of-self : goal.invariant_of-self
-invariant_of-self c =
-    let s = c.args.self.now in
-    let x = c.args.param in
-    record {
-      controls_over = s.controls_over;
-      keys_over = s.keys_over;
-      ordered = s.ordered;
-      others_fit = s.others_fit;
-      rpn_fits = s.rpn_fits;
-      nrpn_fits = s.nrpn_fits;
-      controls_fit = s.controls_fit;
-      keys_fit = s.keys_fit;
-      fixed_fit = pair_set s.fixed 0 x.value c.requires.value_high c.requires.value_low s.fixed_fit;
-      tuning_fits = s.tuning_fits;
-      voice_fits = s.voice_fits;
-      bend_fits = s.bend_fits;
-      pressure_fits = s.pressure_fits;
-    }
+pub invariant_of-self-clause-fixed_fit : goal.invariant_of-self-clause-fixed_fit
+invariant_of-self-clause-fixed_fit c =
+    pair_set c.args.self.now.fixed 0 c.args.param.value c.requires.entered.high c.requires.entered.low c.args.self.now.fixed_fit
 
-pub invariant_of-self-then-rank-eq1 : goal.invariant_of-self-then-rank-eq1
-invariant_of-self-then-rank-eq1 c =
-    let s = c.args.self.now in
-    let x = c.args.param in
-    record {
-      controls_over = s.controls_over;
-      keys_over = s.keys_over;
-      ordered = s.ordered;
-      others_fit = s.others_fit;
-      rpn_fits = s.rpn_fits;
-      nrpn_fits = s.nrpn_fits;
-      controls_fit = s.controls_fit;
-      keys_fit = s.keys_fit;
-      fixed_fit = pair_set s.fixed 1 x.value c.requires.value_high c.requires.value_low s.fixed_fit;
-      tuning_fits = s.tuning_fits;
-      voice_fits = s.voice_fits;
-      bend_fits = s.bend_fits;
-      pressure_fits = s.pressure_fits;
-    }
+pub invariant_of-self-then-rank-eq1-clause-fixed_fit : goal.invariant_of-self-then-rank-eq1-clause-fixed_fit
+invariant_of-self-then-rank-eq1-clause-fixed_fit c =
+    pair_set c.args.self.now.fixed 1 c.args.param.value c.requires.entered.high c.requires.entered.low c.args.self.now.fixed_fit
 
-pub invariant_of-self-then-rank-eq2 : goal.invariant_of-self-then-rank-eq2
-invariant_of-self-then-rank-eq2 c =
-    let s = c.args.self.now in
-    let x = c.args.param in
-    record {
-      controls_over = s.controls_over;
-      keys_over = s.keys_over;
-      ordered = s.ordered;
-      others_fit = s.others_fit;
-      rpn_fits = s.rpn_fits;
-      nrpn_fits = s.nrpn_fits;
-      controls_fit = s.controls_fit;
-      keys_fit = s.keys_fit;
-      fixed_fit = pair_set s.fixed 2 x.value c.requires.value_high c.requires.value_low s.fixed_fit;
-      tuning_fits = s.tuning_fits;
-      voice_fits = s.voice_fits;
-      bend_fits = s.bend_fits;
-      pressure_fits = s.pressure_fits;
-    }
+pub invariant_of-self-then-rank-eq2-clause-fixed_fit : goal.invariant_of-self-then-rank-eq2-clause-fixed_fit
+invariant_of-self-then-rank-eq2-clause-fixed_fit c =
+    pair_set c.args.self.now.fixed 2 c.args.param.value c.requires.entered.high c.requires.entered.low c.args.self.now.fixed_fit
 
-pub invariant_of-self-else-rank-eq2 : goal.invariant_of-self-else-rank-eq2
-invariant_of-self-else-rank-eq2 c =
-    let s = c.args.self.now in
-    let x = c.args.param in
-    record {
-      controls_over = s.controls_over;
-      keys_over = s.keys_over;
-      ordered = s.ordered;
-      others_fit = s.others_fit;
-      rpn_fits = s.rpn_fits;
-      nrpn_fits = s.nrpn_fits;
-      controls_fit = s.controls_fit;
-      keys_fit = s.keys_fit;
-      fixed_fit = pair_set s.fixed 3 x.value c.requires.value_high c.requires.value_low s.fixed_fit;
-      tuning_fits = s.tuning_fits;
-      voice_fits = s.voice_fits;
-      bend_fits = s.bend_fits;
-      pressure_fits = s.pressure_fits;
-    }
+pub invariant_of-self-else-rank-eq2-clause-fixed_fit : goal.invariant_of-self-else-rank-eq2-clause-fixed_fit
+invariant_of-self-else-rank-eq2-clause-fixed_fit c =
+    pair_set c.args.self.now.fixed 3 c.args.param.value c.requires.entered.high c.requires.entered.low c.args.self.now.fixed_fit

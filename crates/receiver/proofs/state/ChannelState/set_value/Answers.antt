@@ -9,10 +9,7 @@ use Rattle.receiver.proofs.state.ChannelState.set_value.Goals as goal
 
 pub set_apart-requires : goal.set_apart-requires
 set_apart-requires c = record {
-  high = c.requires.high;
-  low = c.requires.low;
-  value_high = c.requires.value_high;
-  value_low = c.requires.value_low;
+  entered = c.requires.entered;
   apart = ap is_apart (sym c.rank.ensures) ∙ sym c.is_kept_apart.ensures ∙ c.if-is_kept_apart.true;
 }
 
@@ -23,33 +20,26 @@ put_in-requires c =
     let s = c.args.self.now in
     let x = c.args.param in
     let h = ap is_apart (sym c.rank.ensures) ∙ sym c.is_kept_apart.ensures ∙ c.if-is_kept_apart.false in
-    let n = counted_own l s.fixed (entries_of s.others.items) (parameter_of x) x.value s.ordered s.others_fit (own_from (parameter_of x) h) c.requires.no_program c.requires.no_zone c.requires.high c.requires.low c.requires.value_high c.requires.value_low in
+    let n = counted_own l s.fixed (entries_of s.others.items) (parameter_of x) x.value s.ordered s.others_fit (own_from (parameter_of x) h) c.requires.entered in
     omega (arith, n, c.requires.room)
 
-pub invariant_of-self : goal.invariant_of-self
-invariant_of-self c =
+pub invariant_of-self-clause-ordered : goal.invariant_of-self-clause-ordered
+invariant_of-self-clause-ordered c =
     let e = c.parameter_laws.ensures in
     let l = laws e.given e.others e.form e.equal in
     let s = c.args.self.now in
     let x = c.args.param in
     let es = entries_of s.others.items in
+    ap is_canonical c.put_in.ensures ∙ ordered_put l (parameter_of x) x.value es s.ordered
+
+pub invariant_of-self-clause-others_fit : goal.invariant_of-self-clause-others_fit
+invariant_of-self-clause-others_fit c =
+    let s = c.args.self.now in
+    let x = c.args.param in
+    let es = entries_of s.others.items in
     let h = ap is_apart (sym c.rank.ensures) ∙ sym c.is_kept_apart.ensures ∙ c.if-is_kept_apart.false in
     let o = own_from (parameter_of x) h in
-    record {
-      controls_over = s.controls_over;
-      keys_over = s.keys_over;
-      ordered = ap is_canonical c.put_in.ensures ∙ ordered_put l (parameter_of x) x.value es s.ordered;
-      others_fit = ap are_others c.put_in.ensures ∙ others_put (parameter_of x) x.value es (is_other_own (parameter_of x) x.value o c.requires.no_program c.requires.no_zone c.requires.high c.requires.low c.requires.value_high c.requires.value_low) s.others_fit;
-      rpn_fits = s.rpn_fits;
-      nrpn_fits = s.nrpn_fits;
-      controls_fit = s.controls_fit;
-      keys_fit = s.keys_fit;
-      fixed_fit = s.fixed_fit;
-      tuning_fits = s.tuning_fits;
-      voice_fits = s.voice_fits;
-      bend_fits = s.bend_fits;
-      pressure_fits = s.pressure_fits;
-    }
+    ap are_others c.put_in.ensures ∙ others_put (parameter_of x) x.value es (is_other_own (parameter_of x) x.value o c.requires.entered) s.others_fit
 
 pub returns-else-is_kept_apart-clause-own : goal.returns-else-is_kept_apart-clause-own
 returns-else-is_kept_apart-clause-own c =
@@ -61,4 +51,4 @@ returns-else-is_kept_apart-clause-own c =
     let h = ap is_apart (sym c.rank.ensures) ∙ sym c.is_kept_apart.ensures ∙ c.if-is_kept_apart.false in
     ap (λ ps. record (own_of s) { params = ps })
     (ap (params_of s.fixed) c.put_in.ensures
-    ∙ set_own l s.fixed es (parameter_of x) x.value (tidy_others es s.ordered s.others_fit) (record { high = omega (arith, c.requires.high); low = omega (arith, c.requires.low) }) (own_from (parameter_of x) h))
+    ∙ set_own l s.fixed es (parameter_of x) x.value (tidy_others es s.ordered s.others_fit) c.requires.entered.small (own_from (parameter_of x) h))
