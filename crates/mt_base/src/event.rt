@@ -40,6 +40,25 @@ pub enum Msg {
     },
 }
 
+impl Msg {
+    ghost use Rattle.mt_base.specs.Midi.{channel_of};
+
+    /// The channel that it is about.
+    pub fn channel(&self) -> Channel
+        ensures { result ≡ channel_of self.now }
+    {
+        match *self {
+            Msg::NoteOn { channel, .. }
+            | Msg::NoteOff { channel, .. }
+            | Msg::KeyPressure { channel, .. }
+            | Msg::Control { channel, .. }
+            | Msg::Program { channel, .. }
+            | Msg::Pressure { channel, .. }
+            | Msg::Bend { channel, .. } => channel,
+        }
+    }
+}
+
 impl Default for Msg {
     /// Program 0 on the first channel.
     fn default() -> Msg
