@@ -1,5 +1,5 @@
 -- What one event does to the receiver, as the program keeps it: for the proof of a step alone.
-use Rattle.std.specs.Prelude.{Bool, ◌+◌, ◌≡◌, ◌<◌, ℕ, ◌&&◌, ◌||◌, nat_eq, if◌then◌else◌}
+use Rattle.std.specs.Prelude.{Bool, ◌+◌, ◌≡◌, ◌<◌, ℕ, ◌&&◌, ◌||◌, nat_eq, if◌then◌else◌, Option, None}
 use Rattle.midi_model.specs.Zones.{Zones, governor}
 use Rattle.midi_model.specs.Notes.{Note, sounds}
 use Rattle.midi_model.specs.Sysex.{Doing}
@@ -9,7 +9,7 @@ use Rattle.receiver.specs.declared.turn.Turn.TheVariants.{SoundOff, NotesOff, Ca
 use Rattle.receiver.specs.Heard.{turned_by}
 use Rattle.receiver.specs.Stands.{states_of, selected_in, set_up_of, slot}
 use Rattle.receiver.specs.Tunings.{value_in}
-use Rattle.receiver.specs.Turns.{begins, sounding_after, channels_by, zones_by, selected_by, values_by}
+use Rattle.receiver.specs.Turns.{kept, begins, sounding_after, channels_by, zones_by, selected_by, values_by}
 use Rattle.receiver.specs.Zones.{zones_in}
 
 -- only what sounds may differ
@@ -19,6 +19,27 @@ pub record SameSetUp (r s : Receiver) : Type 0 where
   pub zones : s.zones ≡ r.zones
   pub begun : s.begun ≡ r.begun
   pub tunings : s.tunings ≡ r.tunings
+
+-- only the channels' states may differ, and what sounds
+pub record SameBesideStates (r s : Receiver) : Type 0 where
+  pub selected : selected_in s ≡ selected_in r
+  pub zones : s.zones ≡ r.zones
+  pub begun : s.begun ≡ r.begun
+  pub tunings : s.tunings ≡ r.tunings
+
+-- what sounds on each key of each channel, from what sounded there
+abbrev pub SlotsBecome : (ℕ → ℕ → Option (ℕ × Note) → Option (ℕ × Note)) → Receiver → Receiver → Type 0
+SlotsBecome f r s = (c k : ℕ) → c < 16 → k < 128 → slot s c k ≡ f c k (slot r c k)
+
+-- what becomes of each note that sounds; it ends where it doesn't sound then
+abbrev pub NotesBecome : (Note → Note) → Receiver → Receiver → Type 0
+NotesBecome f r s = (c k : ℕ) → c < 16 → k < 128 → slot s c k ≡ kept f (slot r c k)
+
+abbrev pub NotesStay : Receiver → Receiver → Type 0
+NotesStay r s = (c k : ℕ) → c < 16 → k < 128 → slot s c k ≡ slot r c k
+
+abbrev pub NothingSounds : Receiver → Type 0
+NothingSounds s = (c k : ℕ) → c < 16 → k < 128 → slot s c k ≡ None
 
 -- whether a controller of channel c reaches the notes of channel d: those that it governs, and its own where all notes end
 -- or go up

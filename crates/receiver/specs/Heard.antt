@@ -1,7 +1,9 @@
 -- What one channel plays, as the program keeps it: the notes on its keys, with their numbers.
-use Rattle.std.specs.Prelude.{ℕ, true, false, not, ◌&&◌, if◌then◌else◌, Option, Some, None, is_some, slice_index}
+use Rattle.std.specs.Prelude.{◌≡◌, ◌<◌, nat_eq, ℕ, true, false, not, ◌&&◌, if◌then◌else◌, Option, Some, None, is_some, slice_index}
 use Rattle.midi_model.specs.Notes.{Note, is_down, ending, releasing}
 use Rattle.receiver.specs.Notes.{Told, note_of}
+use Rattle.receiver.specs.State.{own_of}
+use Rattle.receiver.specs.Turns.{kept}
 use Rattle.receiver.specs.declared.note.Struck.{Struck}
 use Rattle.receiver.specs.declared.playing.Playing.{Playing}
 use Rattle.receiver.specs.declared.turn.Turn.{Turn}
@@ -75,3 +77,24 @@ turned_by SoundOff t n = ending t n
 turned_by NotesOff t n = releasing t 64 n
 turned_by Capture t n = taken n
 turned_by Free t n = let_go n
+
+-- ---- what becomes of what one channel plays
+
+-- its state stays, the pressures of its keys aside
+pub record SameState (r s : Playing) : Type 0 where
+  pub own : own_of s.state ≡ own_of r.state
+  pub tuning : s.state.tuning ≡ r.state.tuning
+
+abbrev pub IsSilent : Playing → Type 0
+IsSilent s = (c k : ℕ) → k < 128 → heard c s k ≡ None
+
+abbrev pub HeardStay : Playing → Playing → Type 0
+HeardStay r s = (c k : ℕ) → k < 128 → heard c s k ≡ heard c r k
+
+-- what becomes of each note that sounds; it ends where it doesn't sound then
+abbrev pub HeardBecome : (Note → Note) → Playing → Playing → Type 0
+HeardBecome f r s = (c k : ℕ) → k < 128 → heard c s k ≡ kept f (heard c r k)
+
+-- the same, on one key
+abbrev pub HeardAt : ℕ → (Note → Note) → Playing → Playing → Type 0
+HeardAt key f r s = (c k : ℕ) → k < 128 → heard c s k ≡ (if nat_eq k key then kept f (heard c r k) else heard c r k)

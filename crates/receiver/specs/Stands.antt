@@ -1,5 +1,5 @@
 -- What the receiver, as the program keeps it, stands for.
-use Rattle.std.specs.Prelude.{◌≡◌, ◌<◌, ◌≤◌, ℕ, List, length, map, get_or, Option, None}
+use Rattle.std.specs.Prelude.{◌≡◌, ◌<◌, ◌≤◌, ℕ, List, length, map, get_or, slice_index, Option, None}
 use Rattle.std.specs.List.{AllByRecursion}
 use Rattle.mt_base.specs.Midi.{MidiEvent, MidiWhat, Says, channel_of}
 use Rattle.midi_model.specs.Channel.{Channel, default_channel, apply, counted}
@@ -7,8 +7,10 @@ use Rattle.midi_model.specs.Notes.{Note}
 use Rattle.midi_model.specs.Music.{Music}
 use Rattle.midi_model.specs.Receiver.{after}
 use Rattle.receiver.specs.declared.receiver.Receiver.{Receiver}
+use Rattle.receiver.specs.declared.ends.Ends.{Ends}
 use Rattle.receiver.specs.Heard.{heard}
-use Rattle.receiver.specs.Sounding.{sounding_at}
+use Rattle.receiver.specs.Notes.{has}
+use Rattle.receiver.specs.Sounding.{sounding_at, ended_on}
 use Rattle.receiver.specs.State.{own_of}
 use Rattle.receiver.specs.Tunings.{value_in}
 use Rattle.receiver.specs.Turns.{set_up}
@@ -54,3 +56,7 @@ HasRoom r what = HasRoomIn (states_of r) what
 -- how many notes began
 abbrev pub begun_in : Receiver → ℕ
 begun_in r = r.begun
+
+-- bit k of channel c is set exactly where a note of that key and channel ended between two moments
+abbrev pub TellsEnded : Ends → List Note → List Note → Type 0
+TellsEnded ends before later = (c k : ℕ) → c < 16 → k < 128 → has (slice_index ends.keys c) k ≡ ended_on c k before later

@@ -3,9 +3,9 @@ use Rattle.std.specs.Prelude.{ℕ, zero, suc, List, [], Bool, true, false, ◌&&
 use Rattle.mt_base.specs.Midi.{channel_of}
 use Rattle.mt_base.specs.declared.event.Msg.{Msg}
 use Rattle.mt_base.specs.declared.event.Msg.TheVariants.{NoteOn, NoteOff, KeyPressure, Control}
-use Rattle.midi_model.specs.Channel.{Channel, Role, Stored, ResetControllers, AllSoundOff, AllNotesOff, control_of, role}
+use Rattle.midi_model.specs.Channel.{Channel, Role, Stored, ResetControllers, AllSoundOff, AllNotesOff, control_of, role, apply, default_channel}
 use Rattle.midi_model.specs.Sysex.{Doing, Plays, Resets, Tunes}
-use Rattle.midi_model.specs.Zones.{Zones, no_zones}
+use Rattle.midi_model.specs.Zones.{Zones, no_zones, bend_range_at}
 use Rattle.midi_model.specs.Notes.{Note, sounds, release_key, with_pressure, sostenuto, without_pressure, end_all, release_all}
 use Rattle.midi_model.specs.Music.{Music, channel_at, channels_after, zones_after, begun, settle_note, quiet}
 use Rattle.midi_model.specs.Tuning.{retuned}
@@ -20,6 +20,22 @@ abbrev pub kept : (Note → Note) → Option (ℕ × Note) → Option (ℕ × No
 kept f None = None
 kept f (Some x) = if sounds (f x.1) then Some (x.0, f x.1) else None
 
+-- the notes of one channel alone
+abbrev pub only_on : ℕ → (Note → Note) → ℕ → ℕ → Option (ℕ × Note) → Option (ℕ × Note)
+only_on i f c k o = if nat_eq c i then kept f o else o
+
+-- a note that begins, with its number, in place of the one that sounded on its key
+abbrev pub struck : ℕ → Note → ℕ → ℕ → Option (ℕ × Note) → Option (ℕ × Note)
+struck number n c k o = if nat_eq c n.channel && nat_eq k n.key then Some (number, n) else o
+
+-- by the sostenuto pedal of a channel, whose controller 66 gets a value
+abbrev pub sostenuto_by : Music → ℕ → ℕ → Note → Note
+sostenuto_by m c v n = sostenuto m.zones c (control_of (channel_at m c) 66) v n
+
+-- where no pedal holds it any more
+abbrev pub settled_by : Music → ℕ → Note → Note
+settled_by m t n = settle_note m.channels m.zones t n
+
 -- by a controller
 abbrev pub turned : Music → ℕ → ℕ → ℕ → ℕ → Role → Option (ℕ × Note) → Option (ℕ × Note)
 turned m t c n v Stored o = if nat_eq n 66 then kept (sostenuto m.zones c (control_of (channel_at m c) 66) v) o else o
@@ -27,6 +43,9 @@ turned m t c n v ResetControllers o = kept (λ x. without_pressure c (sostenuto 
 turned m t c n v AllSoundOff o = kept (end_all t m.zones c) o
 turned m t c n v AllNotesOff o = kept (release_all t m.zones c) o
 turned m t c n v _ o = o
+
+abbrev pub turned_by_control : Music → ℕ → ℕ → ℕ → ℕ → ℕ → ℕ → Option (ℕ × Note) → Option (ℕ × Note)
+turned_by_control m t c n v d j o = turned m t c n v (role n) o
 
 -- By a message, before what nothing holds ends: the note on key j of channel d, where the next note on is that of note `next`.
 abbrev pub acted : Music → ℕ → ℕ → Msg → ℕ → ℕ → Option (ℕ × Note) → Option (ℕ × Note)
@@ -67,6 +86,14 @@ pressure_in None = 0
 pressure_in (Some x) = x.1.pressure
 
 -- ---- what an event does to the channels, the zones and the tunings, key by key
+
+-- by a message, as far as it changes its own channel
+abbrev pub applied : List Channel → Msg → List Channel
+applied ss msg = set ss (channel_of msg) (apply (get_or ss (channel_of msg) default_channel) msg)
+
+-- channel c gets the bend sensitivity that setting the zone of master m gives it
+abbrev pub ranged_at : Zones → ℕ → ℕ → List Channel → List Channel
+ranged_at z m c ss = set ss c (bend_range_at z m c (get_or ss c default_channel))
 
 abbrev pub channels_by : Music → Doing → List Channel
 channels_by m (Plays msg) = channels_after m msg

@@ -80,7 +80,8 @@ impl Keys {
     /// A key is struck.
     pub fn strike(&mut self, key: u8, struck: Struck)
         requires { key < 128 }
-        ensures { (k : ℕ) → k < 128 → note_of self.new k ≡ (if nat_eq k key then Some (new_note struck) else note_of self.old k) }
+        ensures { (k : ℕ) → k < 128 → note_of self.new k
+            ≡ (if nat_eq k key then Some (new_note struck) else note_of self.old k) }
     {
         let bit = 1u128 << key;
         self.struck[key as usize] = struck;
@@ -92,7 +93,9 @@ impl Keys {
     /// A key goes up, where it is down.
     pub fn release(&mut self, key: u8, tick: u32, velocity: u8)
         requires { key < 128 }
-        ensures { (k : ℕ) → k < 128 → note_of self.new k ≡ (if nat_eq k key then option_map (let_up tick velocity) (note_of self.old k) else note_of self.old k) }
+        ensures { (k : ℕ) → k < 128 → note_of self.new k
+            ≡ (if nat_eq k key then option_map (let_up tick velocity) (note_of self.old k)
+            else note_of self.old k) }
     {
         let bit = 1u128 << key;
         if self.down & bit != 0 {
@@ -103,7 +106,8 @@ impl Keys {
 
     /// All keys that are down go up.
     pub fn release_all(&mut self, tick: u32, velocity: u8)
-        ensures { (k : ℕ) → k < 128 → note_of self.new k ≡ option_map (let_up tick velocity) (note_of self.old k) }
+        ensures { (k : ℕ) → k < 128 → note_of self.new k
+            ≡ option_map (let_up tick velocity) (note_of self.old k) }
     {
         let mut rest = self.down;
         while rest != 0 {
@@ -129,7 +133,8 @@ impl Keys {
 
     /// The notes of these keys end.
     pub fn end(&mut self, which: u128)
-        ensures { (k : ℕ) → k < 128 → note_of self.new k ≡ (if nat_eq (bit_at which k) 1 then None else note_of self.old k) }
+        ensures { (k : ℕ) → k < 128 → note_of self.new k
+            ≡ (if nat_eq (bit_at which k) 1 then None else note_of self.old k) }
     {
         self.sounding &= !which;
     }

@@ -2,10 +2,13 @@
 //! sizes are fixed, and nothing here takes memory.
 #![tactic(auto)]
 
+mod acting;
+mod asking;
 mod ends;
 mod entry;
 mod keys;
 mod note;
+mod notes;
 mod others;
 mod param;
 mod pitch;
@@ -13,6 +16,7 @@ mod playing;
 mod receiver;
 mod role;
 mod state;
+mod strokes;
 mod taking;
 #[cfg(test)]
 mod tests;

@@ -28,7 +28,8 @@ fn place(others: &[Param], rank: u16) -> Result<usize, usize>
 /// Gives a parameter its value in a list in the order of ranks, which holds no default.
 pub(crate) fn put_in<const N: usize>(others: &mut ArrayVec<Param, N>, param: Param)
     requires { length (put (parameter_of param) param.value (entries_of others.old.items)) ≤ N }
-    ensures { entries_of others.new.items ≡ put (parameter_of param) param.value (entries_of others.old.items) }
+    ensures { entries_of others.new.items
+        ≡ put (parameter_of param) param.value (entries_of others.old.items) }
 {
     match place(others.as_slice(), param.rank()) {
         Ok(at) => {
@@ -58,7 +59,8 @@ pub(crate) fn value_in(others: &[Param], registered: bool, high: u8, low: u8) ->
 
 /// Whether the list has room for this value of a parameter.
 pub(crate) fn has_room(others: &ArrayVec<Param, 16>, param: Param) -> bool
-    ensures { IsTrue result ↔ (length (put (parameter_of param) param.value (entries_of others.now.items)) ≤ 16) }
+    ensures { IsTrue result
+        ↔ (length (put (parameter_of param) param.value (entries_of others.now.items)) ≤ 16) }
 {
     match place(others.as_slice(), param.rank()) {
         Ok(_) => true,

@@ -22,12 +22,11 @@ impl Playing {
     ghost use Rattle.midi_model.specs.Notes.{releasing};
     ghost use Rattle.midi_model.specs.Zones.{bend_range};
     ghost use Rattle.receiver.specs.State.{own_of, program_after};
-    ghost use Rattle.receiver.specs.Turns.{kept};
-    ghost use Rattle.receiver.specs.Heard.{heard, begins_as, pressed, taken, let_go, without_pedal, turned_by};
+    ghost use Rattle.receiver.specs.Heard.{heard, SameState, IsSilent, HeardStay, HeardBecome, HeardAt, begins_as, pressed, taken, let_go, without_pedal, turned_by};
 
     /// A channel at its defaults, on which nothing sounds.
     pub fn new() -> Playing
-        ensures heard { (c k : ℕ) → k < 128 → heard c result k ≡ None }
+        ensures heard { IsSilent result }
         ensures own { own_of result.state ≡ default_channel }
         ensures tuning { result.state.tuning ≡ None }
     {
@@ -40,9 +39,9 @@ impl Playing {
     /// A key is struck; its pressure is 0 then.
     pub fn strike(&mut self, key: u8, struck: Struck)
         requires { key < 128 }
-        ensures heard { (c k : ℕ) → k < 128 → heard c self.new k ≡ (if nat_eq k key then Some (struck.number, begins_as c key struck) else heard c self.old k) }
-        ensures own { own_of self.new.state ≡ own_of self.old.state }
-        ensures tuning { self.new.state.tuning ≡ self.old.state.tuning }
+        ensures heard { (c k : ℕ) → k < 128 → heard c self.new k
+            ≡ (if nat_eq k key then Some (struck.number, begins_as c key struck) else heard c self.old k) }
+        ensures state { SameState self.old self.new }
     {
         self.state.press(key, 0);
         self.keys.strike(key, struck);
@@ -51,18 +50,16 @@ impl Playing {
     /// A key goes up, where it is down.
     pub fn release(&mut self, key: u8, tick: u32, velocity: u8)
         requires { key < 128 }
-        ensures heard { (c k : ℕ) → k < 128 → heard c self.new k ≡ (if nat_eq k key then kept (releasing tick velocity) (heard c self.old k) else heard c self.old k) }
-        ensures own { own_of self.new.state ≡ own_of self.old.state }
-        ensures tuning { self.new.state.tuning ≡ self.old.state.tuning }
+        ensures heard { HeardAt key (releasing tick velocity) self.old self.new }
+        ensures state { SameState self.old self.new }
     {
         self.keys.release(key, tick, velocity);
     }
 
     /// All keys that are down go up.
     pub fn release_all(&mut self, tick: u32)
-        ensures heard { (c k : ℕ) → k < 128 → heard c self.new k ≡ kept (releasing tick 64) (heard c self.old k) }
-        ensures own { own_of self.new.state ≡ own_of self.old.state }
-        ensures tuning { self.new.state.tuning ≡ self.old.state.tuning }
+        ensures heard { HeardBecome (releasing tick 64) self.old self.new }
+        ensures state { SameState self.old self.new }
     {
         self.keys.release_all(tick, 64);
     }
@@ -71,9 +68,8 @@ impl Playing {
     pub fn press(&mut self, key: u8, value: u8)
         requires key { key < 128 }
         requires value { value ≤ 127 }
-        ensures heard { (c k : ℕ) → k < 128 → heard c self.new k ≡ (if nat_eq k key then kept (pressed value) (heard c self.old k) else heard c self.old k) }
-        ensures own { own_of self.new.state ≡ own_of self.old.state }
-        ensures tuning { self.new.state.tuning ≡ self.old.state.tuning }
+        ensures heard { HeardAt key (pressed value) self.old self.new }
+        ensures state { SameState self.old self.new }
     {
         if self.keys.is_sounding(key) {
             self.state.press(key, value);
@@ -82,36 +78,33 @@ impl Playing {
 
     /// The pressures of all keys are 0.
     pub fn relax(&mut self)
-        ensures heard { (c k : ℕ) → k < 128 → heard c self.new k ≡ kept (pressed 0) (heard c self.old k) }
-        ensures own { own_of self.new.state ≡ own_of self.old.state }
-        ensures tuning { self.new.state.tuning ≡ self.old.state.tuning }
+        ensures heard { HeardBecome (pressed 0) self.old self.new }
+        ensures state { SameState self.old self.new }
     {
         self.state.relax(u128::MAX);
     }
 
     /// The sostenuto pedal takes the notes whose keys are down.
     pub fn capture(&mut self)
-        ensures heard { (c k : ℕ) → k < 128 → heard c self.new k ≡ kept taken (heard c self.old k) }
-        ensures own { own_of self.new.state ≡ own_of self.old.state }
-        ensures tuning { self.new.state.tuning ≡ self.old.state.tuning }
+        ensures heard { HeardBecome taken self.old self.new }
+        ensures state { SameState self.old self.new }
     {
         self.keys.capture();
     }
 
     /// The sostenuto pedal holds no note any more.
     pub fn free(&mut self)
-        ensures heard { (c k : ℕ) → k < 128 → heard c self.new k ≡ kept let_go (heard c self.old k) }
-        ensures own { own_of self.new.state ≡ own_of self.old.state }
-        ensures tuning { self.new.state.tuning ≡ self.old.state.tuning }
+        ensures heard { HeardBecome let_go self.old self.new }
+        ensures state { SameState self.old self.new }
     {
         self.keys.free();
     }
 
     /// The notes of these keys end.
     fn end(&mut self, which: u128)
-        ensures heard { (c k : ℕ) → k < 128 → heard c self.new k ≡ (if has which k then None else heard c self.old k) }
-        ensures own { own_of self.new.state ≡ own_of self.old.state }
-        ensures tuning { self.new.state.tuning ≡ self.old.state.tuning }
+        ensures heard { (c k : ℕ) → k < 128 → heard c self.new k
+            ≡ (if has which k then None else heard c self.old k) }
+        ensures state { SameState self.old self.new }
     {
         self.state.relax(which);
         self.keys.end(which);
@@ -119,18 +112,16 @@ impl Playing {
 
     /// All notes end.
     pub fn silence(&mut self)
-        ensures heard { (c k : ℕ) → k < 128 → heard c self.new k ≡ None }
-        ensures own { own_of self.new.state ≡ own_of self.old.state }
-        ensures tuning { self.new.state.tuning ≡ self.old.state.tuning }
+        ensures heard { IsSilent self.new }
+        ensures state { SameState self.old self.new }
     {
         self.end(u128::MAX);
     }
 
     /// What a controller does to its notes.
     pub fn turn(&mut self, turn: Turn, tick: u32)
-        ensures heard { (c k : ℕ) → k < 128 → heard c self.new k ≡ kept (turned_by turn tick) (heard c self.old k) }
-        ensures own { own_of self.new.state ≡ own_of self.old.state }
-        ensures tuning { self.new.state.tuning ≡ self.old.state.tuning }
+        ensures heard { HeardBecome (turned_by turn tick) self.old self.new }
+        ensures state { SameState self.old self.new }
     {
         match turn {
             Turn::SoundOff => self.silence(),
@@ -142,7 +133,7 @@ impl Playing {
 
     /// A reset: nothing sounds, and all has its defaults.
     pub fn reset(&mut self)
-        ensures heard { (c k : ℕ) → k < 128 → heard c self.new k ≡ None }
+        ensures heard { IsSilent self.new }
         ensures own { own_of self.new.state ≡ default_channel }
         ensures tuning { self.new.state.tuning ≡ None }
     {
@@ -153,8 +144,7 @@ impl Playing {
     /// The notes end that only the hold pedal could hold.
     pub fn lift_pedal(&mut self)
         ensures heard { (c k : ℕ) → k < 128 → heard c self.new k ≡ without_pedal (heard c self.old k) }
-        ensures own { own_of self.new.state ≡ own_of self.old.state }
-        ensures tuning { self.new.state.tuning ≡ self.old.state.tuning }
+        ensures state { SameState self.old self.new }
     {
         let loose = self.keys.loose();
         if loose != 0 {
@@ -166,9 +156,10 @@ impl Playing {
     pub fn apply(&mut self, message: &Msg)
         requires valid { IsValidMsg message.now }
         requires room { counted (apply (own_of self.old.state) message.now) ≤ 16 }
-        ensures heard { (c k : ℕ) → k < 128 → heard c self.new k ≡ heard c self.old k }
+        ensures heard { HeardStay self.old self.new }
         ensures own { own_of self.new.state ≡ apply (own_of self.old.state) message.now }
-        ensures tuning { self.new.state.tuning ≡ program_after (own_of self.old.state) message.now self.old.state.tuning }
+        ensures tuning { self.new.state.tuning
+            ≡ program_after (own_of self.old.state) message.now self.old.state.tuning }
     {
         self.state.apply(*message);
     }
@@ -184,7 +175,7 @@ impl Playing {
     /// The bend sensitivity in semitones.
     pub fn bend_range(&mut self, semitones: u8)
         requires { semitones ≤ 127 }
-        ensures heard { (c k : ℕ) → k < 128 → heard c self.new k ≡ heard c self.old k }
+        ensures heard { HeardStay self.old self.new }
         ensures own { own_of self.new.state ≡ bend_range semitones (own_of self.old.state) }
         ensures tuning { self.new.state.tuning ≡ self.old.state.tuning }
     {

@@ -2,10 +2,12 @@ ghost use Rattle.std.specs.Prelude.{◌≡◌, ◌≤◌};
 ghost use Rattle.mt_base.specs.declared.event.Msg.TheVariants.{Control};
 
 mod cases;
+mod note_cases;
 mod player;
 mod random;
 mod slow;
 mod tuned;
+mod zone_cases;
 
 use crate::ChannelState;
 use mt_base::{Channel, Msg};

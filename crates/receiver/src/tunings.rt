@@ -13,10 +13,10 @@ pub(crate) struct Tunings {
 
 impl Tunings {
     ghost use Rattle.std.specs.List.{AllByRecursion};
-    ghost use Rattle.midi_model.specs.Tuning.{renew, retuned};
+    ghost use Rattle.midi_model.specs.Tuning.{renew};
     ghost use Rattle.midi_model.specs.TuningBytes.{numbered};
     ghost use Rattle.mts_msg.specs.Readings.{retune_of, IsInRange};
-    ghost use Rattle.receiver.specs.Tunings.{value_in};
+    ghost use Rattle.receiver.specs.Tunings.{value_in, Retunes};
 
     /// No program holds a value.
     pub fn new() -> Tunings
@@ -41,7 +41,9 @@ impl Tunings {
     fn set(&mut self, program: u8, key: u8, value: Option<u32>)
         requires program { program < 128 }
         requires key { key < 128 }
-        ensures { (p k : ℕ) → p < 128 → k < 128 → value_in self.new p k ≡ (if nat_eq p program && nat_eq k key then renew value (value_in self.old p k) else value_in self.old p k) }
+        ensures { (p k : ℕ) → p < 128 → k < 128 → value_in self.new p k
+            ≡ (if nat_eq p program && nat_eq k key then renew value (value_in self.old p k)
+            else value_in self.old p k) }
     {
         if value.is_some() {
             self.is_set = true;
@@ -52,7 +54,7 @@ impl Tunings {
     /// The values of all keys of a program, from key 0 on.
     fn fill(&mut self, program: u8, values: &[Option<u32>; 128])
         requires { program < 128 }
-        ensures { (p k : ℕ) → p < 128 → k < 128 → value_in self.new p k ≡ retuned program (numbered 0 values.now) (value_in self.old) p k }
+        ensures { Retunes program (numbered 0 values.now) self.old self.new }
     {
         for key in 0..128u8 {
             self.set(program, key, values[key as usize]);
@@ -63,7 +65,7 @@ impl Tunings {
     fn change(&mut self, program: u8, list: &[(u8, Option<u32>)])
         requires program { program < 128 }
         requires keys { AllByRecursion (λ x. x.0 ≤ 127) list.now }
-        ensures { (p k : ℕ) → p < 128 → k < 128 → value_in self.new p k ≡ retuned program list.now (value_in self.old) p k }
+        ensures { Retunes program list.now self.old self.new }
     {
         for change in list {
             self.set(program, change.0, change.1);
@@ -73,7 +75,7 @@ impl Tunings {
     /// A tuning message.
     pub fn take(&mut self, tuning: &Tuning)
         requires { IsInRange (retune_of tuning.now) }
-        ensures { (p k : ℕ) → p < 128 → k < 128 → value_in self.new p k ≡ retuned (retune_of tuning.now).program (retune_of tuning.now).keys (value_in self.old) p k }
+        ensures { Retunes (retune_of tuning.now).program (retune_of tuning.now).keys self.old self.new }
     {
         match tuning {
             Tuning::Dump { program, values } => self.fill(*program, values),

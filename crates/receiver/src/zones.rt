@@ -47,7 +47,8 @@ impl ZoneSizes {
     /// One zone gets so many members; the other goes off where the two would share a channel.
     pub fn set(&mut self, is_lower: bool, members: u8)
         requires { members ≤ 15 }
-        ensures { zones_in self.new ≡ zones_with (Some (if◌then◌else◌ is_lower 0 15, members)) (zones_in self.old) }
+        ensures { zones_in self.new
+            ≡ zones_with (Some (if◌then◌else◌ is_lower 0 15, members)) (zones_in self.old) }
     {
         if is_lower {
             self.lower = members;

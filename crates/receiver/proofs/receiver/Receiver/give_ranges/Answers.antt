@@ -24,10 +24,10 @@ loop-channel-preserved c =
           (λ e el. ap (λ ss. get_or ss e default_channel) (c.give_range.ensures.states ∙ ap (λ z. set (states_of now) i (bend_range_at (zones_in z) m i (get_or (states_of now) i default_channel))) at.zones)
           ∙ set_place (states_of now) i default_channel (bend_range_at (zones_in old.zones) m i) low e)
           refl;
-      selected = c.give_range.ensures.selected ∙ at.selected;
-      zones = c.give_range.ensures.zones ∙ at.zones;
-      begun = c.give_range.ensures.begun ∙ at.begun;
-      tunings = c.give_range.ensures.tunings ∙ at.tunings;
+      selected = c.give_range.ensures.rest.selected ∙ at.selected;
+      zones = c.give_range.ensures.rest.zones ∙ at.zones;
+      begun = c.give_range.ensures.rest.begun ∙ at.begun;
+      tunings = c.give_range.ensures.rest.tunings ∙ at.tunings;
     }
 
 pub returns-clause-states : goal.returns-clause-states

@@ -8,8 +8,8 @@ returns-clause-notes c d k dl kl = pressing _ c.args.channel c.args.key c.args.v
 
 pub returns-clause-rest : goal.returns-clause-rest
 returns-clause-rest c = record {
-  states = map_same _ _ c.args.channel _ c.index-self-channel.result c.press.ensures.own;
-  selected = map_same _ _ c.args.channel _ c.index-self-channel.result c.press.ensures.tuning;
+  states = map_same _ _ c.args.channel _ c.index-self-channel.result c.press.ensures.state.own;
+  selected = map_same _ _ c.args.channel _ c.index-self-channel.result c.press.ensures.state.tuning;
   zones = refl;
   begun = refl;
   tunings = refl;

@@ -8,8 +8,8 @@ returns-clause-notes c d k dl kl = relaxed _ c.args.channel _ c.index-self-chann
 
 pub returns-clause-rest : goal.returns-clause-rest
 returns-clause-rest c = record {
-  states = map_same _ _ c.args.channel _ c.index-self-channel.result c.relax.ensures.own;
-  selected = map_same _ _ c.args.channel _ c.index-self-channel.result c.relax.ensures.tuning;
+  states = map_same _ _ c.args.channel _ c.index-self-channel.result c.relax.ensures.state.own;
+  selected = map_same _ _ c.args.channel _ c.index-self-channel.result c.relax.ensures.state.tuning;
   zones = refl;
   begun = refl;
   tunings = refl;

@@ -8,8 +8,8 @@ returns-clause-notes c d k dl kl = released _ c.args.channel c.args.key c.args.t
 
 pub returns-clause-rest : goal.returns-clause-rest
 returns-clause-rest c = record {
-  states = map_same _ _ c.args.channel _ c.index-self-channel.result c.release.ensures.own;
-  selected = map_same _ _ c.args.channel _ c.index-self-channel.result c.release.ensures.tuning;
+  states = map_same _ _ c.args.channel _ c.index-self-channel.result c.release.ensures.state.own;
+  selected = map_same _ _ c.args.channel _ c.index-self-channel.result c.release.ensures.state.tuning;
   zones = refl;
   begun = refl;
   tunings = refl;

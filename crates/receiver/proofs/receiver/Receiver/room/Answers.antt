@@ -12,12 +12,12 @@ pub returns-in-Message-clause-all : goal.returns-in-Message-clause-all
 returns-in-Message-clause-all c = λ es e stands same.
     let r = c.args.self.now in
     let msg = c.in-Message.message in
-    let d = c.index-self-channel_of.result in
+    let d = c.index-self-channel_number.result in
     let says : e.what ≡ Says msg = same ∙ ap view_what c.in-Message.is in
     let all : length r.channels ≡ 16 = search rules in
-    let low : channel_of msg < 16 = omega (arith, c.channel_of.ensures.value, c.channel_of.ensures.bound) in
-    let here : get_or (states_of r) (channel_of msg) default_channel ≡ own_of (get_or r.channels c.channel_of.result d).state =
-    own_at r.channels (channel_of msg) d (omega (arith, all, low)) ∙ ap (λ i. own_of (get_or r.channels i d).state) (sym c.channel_of.ensures.value) in
+    let low : channel_of msg < 16 = omega (arith, c.channel_number.ensures.value, c.channel_number.ensures.bound) in
+    let here : get_or (states_of r) (channel_of msg) default_channel ≡ own_of (get_or r.channels c.channel_number.result d).state =
+    own_at r.channels (channel_of msg) d (omega (arith, all, low)) ∙ ap (λ i. own_of (get_or r.channels i d).state) (sym c.channel_number.ensures.value) in
     let P : Channel → Type 0 = λ s. counted (apply s msg) ≤ 16 in
     let Q : MidiWhat → Type 0 = λ w. HasRoom r w in (
       λ yes. few_more r es e stands (subst Q (sym says) (subst P (sym here) (c.room.ensures.0 yes))),

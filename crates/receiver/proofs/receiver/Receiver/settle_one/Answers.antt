@@ -20,8 +20,8 @@ returns-else-not-is_down-clause-notes c t d k dl kl =
 
 pub returns-then-not-is_down-clause-rest : goal.returns-then-not-is_down-clause-rest
 returns-then-not-is_down-clause-rest c = record {
-  states = map_same _ _ c.args.channel _ c.index-self-channel.result c.lift_pedal.ensures.own;
-  selected = map_same _ _ c.args.channel _ c.index-self-channel.result c.lift_pedal.ensures.tuning;
+  states = map_same _ _ c.args.channel _ c.index-self-channel.result c.lift_pedal.ensures.state.own;
+  selected = map_same _ _ c.args.channel _ c.index-self-channel.result c.lift_pedal.ensures.state.tuning;
   zones = refl;
   begun = refl;
   tunings = refl;

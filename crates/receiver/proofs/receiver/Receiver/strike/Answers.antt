@@ -13,7 +13,7 @@ returns-clause-notes c d k dl kl =
     (begun_here s.channels (zones_in s.zones) c.args.tick c.args.channel c.args.key c.args.velocity c.governor.result c.index-self-governor.result (search rules) c.governor.ensures.value) d k kl
 
 pub returns-clause-states : goal.returns-clause-states
-returns-clause-states c = map_same _ _ c.args.channel _ c.index-self-channel.result c.strike.ensures.own
+returns-clause-states c = map_same _ _ c.args.channel _ c.index-self-channel.result c.strike.ensures.state.own
 
 pub returns-clause-selected : goal.returns-clause-selected
-returns-clause-selected c = map_same _ _ c.args.channel _ c.index-self-channel.result c.strike.ensures.tuning
+returns-clause-selected c = map_same _ _ c.args.channel _ c.index-self-channel.result c.strike.ensures.state.tuning

@@ -10,8 +10,8 @@ returns-then-reaches-clause-notes c d k dl kl =
 
 pub returns-then-reaches-clause-rest : goal.returns-then-reaches-clause-rest
 returns-then-reaches-clause-rest c = record {
-  states = map_same _ _ c.args.other _ c.index-self-other.result c.turn.ensures.own;
-  selected = map_same _ _ c.args.other _ c.index-self-other.result c.turn.ensures.tuning;
+  states = map_same _ _ c.args.other _ c.index-self-other.result c.turn.ensures.state.own;
+  selected = map_same _ _ c.args.other _ c.index-self-other.result c.turn.ensures.state.tuning;
   zones = refl;
   begun = refl;
   tunings = refl;

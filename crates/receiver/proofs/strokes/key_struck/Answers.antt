@@ -2,7 +2,7 @@ use Rattle.std.proofs.Common.{◌∙◌, ap, sym, rules}
 use Rattle.receiver.specs.Turns.{strikes_by}
 use Rattle.receiver.proofs.Bits.{has_one}
 use Rattle.receiver.proofs.Striking.{strikes_here}
-use Rattle.receiver.proofs.receiver.key_struck.Goals as goal
+use Rattle.receiver.proofs.strokes.key_struck.Goals as goal
 
 pub returns-then-number-channel : goal.returns-then-number-channel
 returns-then-number-channel c = λ k below.

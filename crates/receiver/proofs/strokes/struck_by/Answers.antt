@@ -4,7 +4,7 @@ use Rattle.midi_model.specs.Sysex.{doing}
 use Rattle.receiver.specs.Turns.{strikes}
 use Rattle.receiver.proofs.Bits.{has_none}
 use Rattle.receiver.proofs.Striking.{strikes_none}
-use Rattle.receiver.proofs.receiver.struck_by.Goals as goal
+use Rattle.receiver.proofs.strokes.struck_by.Goals as goal
 
 pub returns-in-Sysex : goal.returns-in-Sysex
 returns-in-Sysex c = λ k below.
