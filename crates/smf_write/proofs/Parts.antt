@@ -20,11 +20,6 @@ pub nothing_written : record { bytes = []; tick = 0; running = 0; ended = false 
 unfolding events_bytes last_tick last_running is_ended
 nothing_written = refl
 
--- how long both parts together are
-pub grown : (old new head content head2 content2 : List ℕ) (most : ℕ) → new ≡ old ++ (head ++ content) → head ≡ head2 → content ≡ content2 → length head2 + length content2 ≤ most → length new ≤ length old + most
-grown old new head content head2 content2 most is h c le =
-    omega (arith, ap (λ (x : List ℕ). length x) is, length-append old (head ++ content), length-append head content, ap (λ (x : List ℕ). length x) h, ap (λ (x : List ℕ). length x) c, le)
-
 -- the chunks of these tracks
 abbrev pub all_chunks : List Written → List ℕ
 all_chunks ts = chunks_bytes (map (λ (t : Written). t.bytes) ts)

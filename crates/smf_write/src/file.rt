@@ -1,19 +1,13 @@
-ghost use Rattle.std.specs.Prelude.{◌≡◌, ◌<◌, ◌≤◌, ◌+◌, ◌*◌, ◌^◌, ◌⊎◌, List, [], ◌∷◌, ◌++◌, length, map, true, All, IfOk, OnOk};
+ghost use Rattle.std.specs.Prelude.{◌≡◌, ◌<◌, ◌≤◌, ◌^◌, ◌⊎◌, List, ◌++◌, length, map, true, All, IfOk, OnOk};
 ghost use Rattle.mt_base.specs.Midi.{Timed};
-ghost use Rattle.midi_model.specs.FileText.{MidiFile};
 ghost use Rattle.midi_model.specs.Spelling.{Spells};
 ghost use Rattle.midi_model.specs.Writing.{Written, written, header_bytes, chunk_bytes, file_bytes, IsWritable};
+ghost use Rattle.smf_write.specs.Content.{file_of};
 
 use crate::text::TrackText;
-use midi_model::writing_laws;
+use midi_model::{MTHD, MTRK, MOST_TRACKS, writing_laws};
 use mt_base::Memory;
 use std::alloc::Global;
-
-/// `MThd`, the type of a header chunk.
-const MTHD: u32 = 0x4d54_6864;
-
-/// `MTrk`, the type of a track chunk.
-const MTRK: u32 = 0x4d54_726b;
 
 /// The bytes before the tracks: the header chunk.
 const HEADER_LEN: usize = 14;
@@ -29,12 +23,18 @@ pub fn finish(
     tracks: Vec<TrackText>,
 ) -> Result<Vec<u8>, Memory>
     requires one_or_more { 0 < length tracks.items }
-    requires few { length tracks.items ≤ 1024 }
+    requires few { length tracks.items ≤ MOST_TRACKS }
     requires ended { All (λ (t : Written). t.ended ≡ true) tracks.items }
     requires short { All (λ (t : Written). length t.bytes < 2 ^ 32) tracks.items }
     requires formats { ((format ≡ 0) × (length tracks.items ≡ 1)) ⊎ (format ≡ 1) }
-    ensures bytes { (ts : List (List Timed)) → tracks.items ≡ map written ts → IfOk result (λ v. v.items ≡ file_bytes (record { format = format; division = division; tracks = ts })) }
-    ensures spells { (ts : List (List Timed)) → tracks.items ≡ map written ts → All (IsWritable 0) ts → IfOk result (λ v. Spells v.items (record { format = format; division = division; tracks = ts })) }
+    ensures bytes {
+        (ts : List (List Timed)) → tracks.items ≡ map written ts
+            → IfOk result (λ v. v.items ≡ file_bytes (file_of format division ts))
+    }
+    ensures spells {
+        (ts : List (List Timed)) → tracks.items ≡ map written ts → All (IsWritable 0) ts
+            → IfOk result (λ v. Spells v.items (file_of format division ts))
+    }
 {
     writing_laws();
     let mut out = Vec::with_capacity(alloc, file_len(&tracks))?;
@@ -47,7 +47,7 @@ pub fn finish(
 
 /// How many bytes a file of these tracks has.
 fn file_len(tracks: &Vec<TrackText>) -> usize
-    requires few { length tracks.now.items ≤ 1024 }
+    requires few { length tracks.now.items ≤ MOST_TRACKS }
     requires short { All (λ (t : Written). length t.bytes < 2 ^ 32) tracks.now.items }
 {
     let mut len = HEADER_LEN;

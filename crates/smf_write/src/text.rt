@@ -1,9 +1,10 @@
-ghost use Rattle.std.specs.Prelude.{◌≡◌, ◌<◌, ◌≤◌, ◌+◌, ◌^◌, List, [], ◌∷◌, ◌++◌, length, false, IsTrue, ◌↔◌, OnOk, OnErr};
+ghost use Rattle.std.specs.Prelude.{◌≡◌, ◌<◌, ◌≤◌, ◌+◌, ◌^◌, List, [], ◌∷◌, ◌++◌, length, false, OnOk, OnErr};
 ghost use Rattle.mt_base.specs.Midi.{view_what, is_end, Timed};
 ghost use Rattle.mt_base.specs.Valid.{IsValidWhat};
-ghost use Rattle.midi_model.specs.Writing.{written, with_event, most_bytes};
+ghost use Rattle.midi_model.specs.Writing.{quantity_bytes, body_bytes, written, with_event, most_bytes};
+ghost use Rattle.smf_write.specs.Content.{timed};
 
-use crate::event::{content, head, is_last, running};
+use crate::event::{HEAD_LEN, content, is_last, push_head, running};
 use midi_model::writing_laws;
 use mt_base::{Memory, What};
 use std::alloc::Global;
@@ -73,20 +74,23 @@ impl TrackText {
     }
 
     /// Appends an event: its delta, and its bytes after the running status. On `Memory` the track is unchanged.
+    #[inline]
     pub fn put(&mut self, tick: u32, what: &What<'_>) -> Result<(), Memory>
         requires order { self.old.tick ≤ tick }
         requires range { tick < 2 ^ 28 }
         requires valid { IsValidWhat (view_what what.now) }
         requires open { self.old.ended ≡ false }
-        ensures appended { OnOk result (self.new ≡ with_event self.old (record { tick = tick; what = view_what what.now })) }
-        ensures stands { (es : List Timed) → self.old ≡ written es → OnOk result (self.new ≡ written (es ++ record { tick = tick; what = view_what what.now } ∷ [])) }
+        ensures appended { OnOk result (self.new ≡ with_event self.old (timed tick (view_what what.now))) }
+        ensures stands {
+            (es : List Timed) → self.old ≡ written es
+                → OnOk result (self.new ≡ written (es ++ timed tick (view_what what.now) ∷ []))
+        }
         ensures last { OnOk result ((self.new.tick ≡ tick) × (self.new.ended ≡ is_end (view_what what.now))) }
         ensures grows { length self.new.bytes ≤ length self.old.bytes + most_bytes (view_what what.now) }
         ensures unchanged { OnErr result (self.new ≡ self.old) }
     {
         writing_laws();
-        let head = head(tick - self.tick, self.running, what);
-        append(&mut self.bytes, head.as_slice(), content(what))?;
+        append(&mut self.bytes, tick - self.tick, self.running, what)?;
         self.tick = tick;
         self.running = running(what);
         self.ended = is_last(what);
@@ -94,14 +98,23 @@ impl TrackText {
     }
 }
 
-/// Appends both parts. On `Memory` the bytes are unchanged.
-fn append(bytes: &mut Vec<u8>, head: &[u8], content: &[u8]) -> Result<(), Memory>
-    requires { length head.now ≤ 10 }
-    ensures appended { OnOk result (bytes.new.items ≡ bytes.old.items ++ (head.now ++ content.now)) }
+/// Appends an event behind a delta, after a running status. On `Memory` the bytes are unchanged.
+#[inline]
+fn append(bytes: &mut Vec<u8>, delta: u32, running: u8, what: &What<'_>) -> Result<(), Memory>
+    requires range { delta < 2 ^ 28 }
+    requires valid { IsValidWhat (view_what what.now) }
+    ensures appended {
+        OnOk result (bytes.new.items
+            ≡ bytes.old.items ++ (quantity_bytes delta ++ body_bytes running (view_what what.now)))
+    }
+    ensures grows { length bytes.new.items ≤ length bytes.old.items + most_bytes (view_what what.now) }
     ensures unchanged { OnErr result (bytes.new.items ≡ bytes.old.items) }
 {
-    bytes.reserve(head.len() + content.len())?;
-    bytes.extend_from_slice(head)?;
-    bytes.extend_from_slice(content)?;
+    let content = content(what);
+    bytes.reserve(HEAD_LEN + content.len())?;
+    push_head(bytes, delta, running, what);
+    if !content.is_empty() {
+        bytes.extend_from_slice(content)?;
+    }
     Ok(())
 }

@@ -1,7 +1,6 @@
-use Rattle.std.proofs.Common.{rules, ◌≡◌, ◌∙◌, ap, ◌++◌}
+use Rattle.std.proofs.Common.{rules, ◌∙◌, ap}
 use Rattle.mt_base.specs.Midi.{view_what, Timed}
 use Rattle.midi_model.specs.Writing.{Written, with_event}
-use Rattle.smf_write.proofs.Parts.{grown}
 use Rattle.smf_write.proofs.text.TrackText.put.Goals as goal
 
 pub returns-clause-appended : goal.returns-clause-appended
@@ -12,9 +11,5 @@ returns-clause-stands c es is =
     let e : Timed = record { tick = c.args.tick; what = view_what c.args.what.now } in
     returns-clause-appended c ∙ ap (λ (w : Written). with_event w e) is ∙ c.writing_laws.ensures.appended es e
 
-appended_bytes : (c : goal.After-self-3-1) → c.append.new.bytes.items ≡ c.args.self.now.bytes ++ (c.as_slice.result.now ++ c.content.result.now)
-appended_bytes c = grind (rules, c.in_ok-append.ensures.appended, c.self.view_is)
-
 pub returns-clause-grows : goal.returns-clause-grows
-returns-clause-grows c = grown _ c.append.new.bytes.items c.as_slice.result.now c.content.result.now c.head-head.result.items _ _
-    (appended_bytes c) c.as_slice.ensures.value c.content.ensures c.head-head.ensures.short
+returns-clause-grows c = grind (rules, c.append.ensures.grows, c.self.view_is)
