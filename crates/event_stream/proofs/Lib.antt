@@ -2,6 +2,8 @@ pub mod Ordering
 pub mod Taking
 pub mod Dealing
 pub mod Trees
+pub mod Under
+pub mod Waiting
 pub mod Putting
 pub mod Parts
 pub mod Cursors

@@ -6,13 +6,13 @@ use Rattle.std.proofs.lemmas.List.{get_or-replicate, get_or-take, get_or-drop, g
 use Rattle.std.proofs.lemmas.List.Elements.{All-from_get_or}
 use Rattle.event_stream.specs.Tree.{IsTree, IsTreeBut}
 
-halves : (i : ℕ) → (p : ℕ) × ((i ≡ 2 * p) ⊎ (i ≡ 2 * p + 1))
+pub halves : (i : ℕ) → (p : ℕ) × ((i ≡ 2 * p) ⊎ (i ≡ 2 * p + 1))
 halves zero = (0, inl refl)
 halves (suc zero) = (0, inr refl)
 halves (suc (suc i)) = let h = halves i in (suc h.0, elim h.1 [ inl e ↦ inl (omega (arith, e)) | inr e ↦ inr (omega (arith, e)) ])
 
 -- what is below a place is no less
-lower : (p i : ℕ) (tree : List ℕ) → get_or tree p 0 ≡ min (get_or tree (2 * p) 0) (get_or tree (2 * p + 1) 0) → (i ≡ 2 * p) ⊎ (i ≡ 2 * p + 1) → get_or tree p 0 ≤ get_or tree i 0
+pub lower : (p i : ℕ) (tree : List ℕ) → get_or tree p 0 ≡ min (get_or tree (2 * p) 0) (get_or tree (2 * p + 1) 0) → (i ≡ 2 * p) ⊎ (i ≡ 2 * p + 1) → get_or tree p 0 ≤ get_or tree i 0
 lower p i tree node (inl e) = subst (λ m. get_or tree p 0 ≤ get_or tree m 0) (sym e) (omega (arith, node))
 lower p i tree node (inr e) = subst (λ m. get_or tree p 0 ≤ get_or tree m 0) (sym e) (omega (arith, node))
 
@@ -57,7 +57,7 @@ root_among (suc turns) n i tree h le some lt = elim (cases_lt i n) [
 
 -- ---- the leaves
 
-leaf_at : (n j : ℕ) (tree : List ℕ) (d : ℕ) → j < n → get_or (take n (drop n tree)) j d ≡ get_or tree (n + j) d
+pub leaf_at : (n j : ℕ) (tree : List ℕ) (d : ℕ) → j < n → get_or (take n (drop n tree)) j d ≡ get_or tree (n + j) d
 leaf_at n j tree d lt = get_or-take n (drop n tree) j d lt ∙ get_or-drop n tree j d
 
 pub count_leaves : (n : ℕ) (tree : List ℕ) → 2 * n ≤ length tree → length (take n (drop n tree)) ≡ n

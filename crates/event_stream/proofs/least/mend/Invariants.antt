@@ -1,5 +1,6 @@
 use Rattle.std.proofs.Common.{◌≡◌, ◌*◌, ◌/◌, ◌<◌, length, take, drop}
 use Rattle.event_stream.specs.Tree.{IsTreeBut}
+use Rattle.event_stream.proofs.Under.{IsBelowLeaves}
 use Rattle.event_stream.proofs.least.mend.Given as goal
 
 abbrev pub invariant-loop-at : goal.invariant-loop-at
@@ -8,6 +9,7 @@ invariant-loop-at l = record {
   some : 0 < l.at;
   inside : l.at < 2 * l.count;
   but_one : IsTreeBut (l.at / 2) l.count l.tree;
+  others : IsBelowLeaves l.others l.at l.leaf l.count l.tree;
   leaves : take l.count (drop l.count l.tree) ≡ take l.count (drop l.count l.fn.tree);
 }
 

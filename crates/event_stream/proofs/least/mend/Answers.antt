@@ -1,0 +1,36 @@
+use Rattle.std.proofs.Common.{◌≤◌, ◌<◌, ◌*◌, ◌/◌, length, arith, refl, ◌∙◌}
+use Rattle.std.proofs.lemmas.List.{length-set}
+use Rattle.event_stream.proofs.Trees.{place_mended, leaves_stay}
+use Rattle.event_stream.proofs.Under.{at_leaf, one_up, at_first}
+use Rattle.event_stream.proofs.least.mend.Goals as goal
+
+pub loop-at-init : goal.loop-at-init
+loop-at-init c = record {
+  size = c.requires.size;
+  some = c.requires.some;
+  inside = c.requires.inside;
+  but_one = c.requires.but_one;
+  others = at_leaf 18446744073709551615 c.args.leaf c.args.count c.args.tree.now c.requires.least c.requires.inside;
+  leaves = refl;
+}
+
+pub loop-at-preserved : goal.loop-at-preserved
+loop-at-preserved c =
+    let l = c.loop-at in
+    let more = c.loop-at-test.true in
+    let low : l.at / 2 < c.args.count = omega (arith, l.invariant.inside) in
+    let room : l.at / 2 < length l.tree = omega (arith, low, c.requires.few, l.invariant.size) in
+    let some : 0 < l.at / 2 = omega (arith, more) in
+    record {
+      size = rw length-set l.invariant.size;
+      some = some;
+      inside = omega (arith, low);
+      but_one = rw c.min.ensures (place_mended c.args.count (l.at / 2) l.tree some room l.invariant.but_one);
+      others = rw c.min-others.ensures (one_up l.others c.beside.result l.at c.args.leaf c.args.count c.min.result l.tree more low l.invariant.but_one l.invariant.others c.beside.ensures.even c.beside.ensures.odd);
+      leaves = leaves_stay c.args.count (l.at / 2) c.min.result l.tree low ∙ l.invariant.leaves;
+    }
+
+pub returns-clause-others : goal.returns-clause-others
+returns-clause-others c =
+    let l = c.loop-at in
+    at_first l.others l.at c.args.leaf c.args.count l.tree (omega (arith, c.loop-at-test.false, l.invariant.some)) (omega (arith, c.requires.few, l.invariant.size)) c.requires.least l.invariant.others
