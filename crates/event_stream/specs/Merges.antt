@@ -1,5 +1,5 @@
 -- The tracks of a file, side by side: a cursor for each, and the key of its next event.
-use Rattle.std.specs.Prelude.{◌≡◌, ◌<◌, ◌≤◌, ◌^◌, ℕ, suc, List, [], ◌∷◌, map, take, length, All, Contains}
+use Rattle.std.specs.Prelude.{◌≡◌, ◌<◌, ◌≤◌, ◌^◌, ℕ, suc, List, [], ◌∷◌, map, get_or, take, length, All, Contains}
 use Rattle.std.specs.List.{AllByRecursion}
 use Rattle.mt_base.specs.Midi.{Timed, MidiEvent}
 use Rattle.midi_model.specs.Merged.{InOrder, merged_tracks, timed}
@@ -17,6 +17,10 @@ pub record IsPart (track : ℕ) (es : List MidiEvent) : Type 0 where
 abbrev pub AreParts : ℕ → List (List MidiEvent) → Type 0
 AreParts track [] = Unit {0}
 AreParts track (es ∷ parts) = IsPart track es × AreParts (suc track) parts
+
+-- what is left of one track
+abbrev pub left_at : ℕ → List Cursor → List MidiEvent
+left_at track cursors = get_or (map remaining cursors) track []
 
 abbrev pub untracked : List (List MidiEvent) → List (List Timed)
 untracked parts = map (map timed) parts

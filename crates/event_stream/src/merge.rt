@@ -1,19 +1,19 @@
-ghost use Rattle.std.specs.Prelude.{◌≡◌, ◌<◌, ◌≤◌, ◌+◌, ◌*◌, ◌%◌, ◌≢◌, ℕ, List, [], ◌∷◌, map, slice_set, get_or, take, length, IfSome, IfNone};
+ghost use Rattle.std.specs.Prelude.{◌≡◌, ◌<◌, ◌≤◌, ◌+◌, ◌*◌, ◌%◌, ◌≢◌, ℕ, List, [], ◌∷◌, map, slice_set, length, IfSome, IfNone};
 ghost use Rattle.mt_base.specs.Midi.{MidiEvent, view};
 ghost use Rattle.midi_model.specs.Merged.{merged, IsPlayable, timed};
 ghost use Rattle.smf_read.specs.Remaining.{remaining, all_of};
 ghost use Rattle.event_stream.specs.Keys.{key_of, keys_of};
-ghost use Rattle.event_stream.specs.Merges.{untracked, parts_left, merged_left, merged_whole, IsMerge};
+ghost use Rattle.event_stream.specs.Merges.{left_at, untracked, parts_left, merged_left, merged_whole, IsMerge};
 
 use crate::least::Least;
 use crate::stream::EventStream;
-use midi_model::merged_order;
+use midi_model::{MOST_EVENTS, MOST_TRACKS, merged_order};
 use mt_base::Event;
 use smf_read::{Cursor, Smf};
 use std::marker::Model;
 
-/// The most tracks that a file has.
-const MOST_TRACKS: usize = 1024;
+/// A cursor for each track that a file may have.
+const PLACES: usize = MOST_TRACKS as usize;
 
 /// How many keys there are for a tick: more than there are tracks.
 const KEYS_PER_TICK: u64 = 0x1_0000;
@@ -22,7 +22,7 @@ const KEYS_PER_TICK: u64 = 0x1_0000;
 /// by side, and takes no memory.
 #[derive(Drop)]
 pub struct Merge<'a> {
-    cursors: [Cursor<'a>; MOST_TRACKS],
+    cursors: [Cursor<'a>; PLACES],
     keys: Least,
     first: u64,
     tracks: u16,
@@ -46,10 +46,10 @@ impl<'a> Merge<'a> {
         ensures all { result.all ≡ merged smf.now }
         ensures rest { result.rest ≡ merged smf.now }
         ensures playable { IsPlayable (length smf.now.tracks) result.all }
-        ensures few { length result.all ≤ 2097152 }
+        ensures few { length result.all ≤ MOST_EVENTS }
     {
         let tracks = smf.tracks();
-        let mut cursors = [Cursor::default(); MOST_TRACKS];
+        let mut cursors = [Cursor::default(); PLACES];
         for track in 0..tracks {
             cursors[track as usize] = smf.cursor(track);
         }
@@ -105,7 +105,7 @@ fn track_of(key: u64) -> Option<u16>
 /// the greatest.
 fn key_at(cursors: &[Cursor<'_>], track: u16) -> u64
     requires { track < length cursors.now }
-    ensures { result ≡ key_of track (map timed (get_or (map remaining cursors.now) track [])) }
+    ensures { result ≡ key_of track (map timed (left_at track cursors.now)) }
 {
     match cursors[track as usize].tick() {
         Some(tick) => u64::from(tick) * KEYS_PER_TICK + u64::from(track),
@@ -116,7 +116,7 @@ fn key_at(cursors: &[Cursor<'_>], track: u16) -> u64
 /// The keys of the first so many cursors.
 fn keys_of(cursors: &[Cursor<'_>], tracks: u16) -> Least
     requires some { 0 < tracks }
-    requires few { tracks ≤ 1024 }
+    requires few { tracks ≤ MOST_TRACKS }
     requires size { length cursors.now ≡ 1024 }
     ensures { result ≡ keys_of 0 (untracked (parts_left tracks cursors.now)) }
 {
@@ -130,10 +130,13 @@ fn keys_of(cursors: &[Cursor<'_>], tracks: u16) -> Least
 /// Takes the next event of a track, and gives the key of what is left of it.
 fn take_next<'a>(cursors: &mut [Cursor<'a>], track: u16) -> (Option<Event<'a>>, u64)
     requires { track < length cursors.old }
-    ensures some { IfSome result.0 (λ e. get_or (map remaining cursors.old) track [] ≡ view e ∷ get_or (map remaining cursors.new) track []) }
-    ensures none { IfNone result.0 (get_or (map remaining cursors.old) track [] ≡ []) }
-    ensures key { result.1 ≡ key_of track (map timed (get_or (map remaining cursors.new) track [])) }
-    ensures others { map remaining cursors.new ≡ slice_set (map remaining cursors.old) track (get_or (map remaining cursors.new) track []) }
+    ensures some { IfSome result.0 (λ e. left_at track cursors.old ≡ view e ∷ left_at track cursors.new) }
+    ensures none { IfNone result.0 (left_at track cursors.old ≡ []) }
+    ensures key { result.1 ≡ key_of track (map timed (left_at track cursors.new)) }
+    ensures others {
+        map remaining cursors.new
+            ≡ slice_set (map remaining cursors.old) track (left_at track cursors.new)
+    }
     ensures all { map all_of cursors.new ≡ map all_of cursors.old }
 {
     let event = cursors[track as usize].next();
@@ -143,7 +146,7 @@ fn take_next<'a>(cursors: &mut [Cursor<'a>], track: u16) -> (Option<Event<'a>>, 
 /// Makes each cursor give all its events again, and gives the keys of the first so many.
 fn restart_all(cursors: &mut [Cursor<'_>], tracks: u16) -> Least
     requires some { 0 < tracks }
-    requires few { tracks ≤ 1024 }
+    requires few { tracks ≤ MOST_TRACKS }
     requires size { length cursors.old ≡ 1024 }
     ensures keys { result ≡ keys_of 0 (untracked (parts_left tracks cursors.new)) }
     ensures rest { map remaining cursors.new ≡ map all_of cursors.old }

@@ -1,9 +1,10 @@
-ghost use Rattle.std.specs.Prelude.{◌≡◌, ◌<◌, ◌≤◌, ◌+◌, ℕ, List, [], ◌∷◌, ◌++◌, map, get_or, slice_set, length, true, false, All, IfOk, OnOk, OnErr};
+ghost use Rattle.std.specs.Prelude.{◌≡◌, ◌<◌, ◌≤◌, ◌+◌, ℕ, List, [], ◌∷◌, ◌++◌, length, true, false, All, IfOk, OnOk, OnErr};
 ghost use Rattle.mt_base.specs.Midi.{MidiEvent, view};
 ghost use Rattle.mt_base.specs.Valid.{IsValidEvent};
-ghost use Rattle.midi_model.specs.Merged.{merged_tracks, IsPlayable, timed};
-ghost use Rattle.midi_model.specs.Writing.{Written, written, with_event, most_bytes};
-ghost use Rattle.event_stream.specs.Distributed.{distributed, all_bytes};
+ghost use Rattle.midi_model.specs.Merged.{IsPlayable};
+ghost use Rattle.midi_model.specs.Writing.{Written, most_bytes};
+ghost use Rattle.event_stream.specs.Distributed.{StandFor, text_at, put_into, all_bytes};
+ghost use Rattle.event_stream.specs.PutLaws.{PlayableIsMerged};
 
 use midi_model::merged_order;
 use mt_base::{Event, Memory};
@@ -31,7 +32,7 @@ impl Model for TrackSet {
 impl TrackSet {
     /// So many tracks without events.
     pub fn new(alloc: Global, tracks: u16) -> Result<TrackSet, Memory>
-        ensures stands { IfOk result (λ set. set ≡ map written (distributed tracks [])) }
+        ensures stands { IfOk result (λ set. StandFor set tracks []) }
         ensures count { IfOk result (λ set. length set ≡ tracks) }
         ensures empty { IfOk result (λ set. all_bytes set ≡ 0) }
     {
@@ -47,10 +48,13 @@ impl TrackSet {
     pub fn put(&mut self, event: &Event<'_>) -> Result<(), Memory>
         requires valid { IsValidEvent (view event.now) }
         requires exists { event.now.track < length self.old }
-        requires open { (get_or self.old event.now.track (written [])).ended ≡ false }
-        requires order { (get_or self.old event.now.track (written [])).tick ≤ event.now.tick }
-        ensures appended { OnOk result (self.new ≡ slice_set self.old event.now.track (with_event (get_or self.old event.now.track (written [])) (timed (view event.now)))) }
-        ensures stands { (tracks : ℕ) (es : List MidiEvent) → self.old ≡ map written (distributed tracks es) → OnOk result (self.new ≡ map written (distributed tracks (es ++ view event.now ∷ []))) }
+        requires open { (text_at self.old event.now.track).ended ≡ false }
+        requires order { (text_at self.old event.now.track).tick ≤ event.now.tick }
+        ensures appended { OnOk result (self.new ≡ put_into self.old (view event.now)) }
+        ensures stands {
+            (tracks : ℕ) (es : List MidiEvent) → StandFor self.old tracks es
+                → OnOk result (StandFor self.new tracks (es ++ view event.now ∷ []))
+        }
         ensures grows { all_bytes self.new ≤ all_bytes self.old + most_bytes (view event.now).what }
         ensures unchanged { OnErr result (self.new ≡ self.old) }
     {
@@ -61,9 +65,12 @@ impl TrackSet {
     /// they are the list again.
     pub fn into_tracks(self) -> Vec<TrackText>
         ensures tracks { result.items ≡ self }
-        ensures ended { (tracks : ℕ) (es : List MidiEvent) → self ≡ map written (distributed tracks es) → IsPlayable tracks es → All (λ (t : Written). t.ended ≡ true) result.items }
+        ensures ended {
+            (tracks : ℕ) (es : List MidiEvent) → StandFor self tracks es → IsPlayable tracks es
+                → All (λ (t : Written). t.ended ≡ true) result.items
+        }
         ensures short { All (λ (t : Written). length t.bytes ≤ all_bytes self) result.items }
-        ensures merged_again { (tracks : ℕ) (es : List MidiEvent) → IsPlayable tracks es → merged_tracks (distributed tracks es) ≡ es }
+        ensures merged_again { PlayableIsMerged }
     {
         merged_order();
         self.tracks
