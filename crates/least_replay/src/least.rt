@@ -1,7 +1,6 @@
-ghost use Rattle.std.specs.Prelude.{ℕ, ◌≡◌, ◌≤◌, ◌<◌, ◌+◌, ◌++◌, map, length, pos, IfOk};
+ghost use Rattle.std.specs.Prelude.{◌≡◌, ◌++◌, map, pos, IfOk};
 ghost use Rattle.least_replay.specs.Columns.{before_of};
 ghost use Rattle.least_replay.specs.Cover.{IsLeast};
-ghost use Rattle.least_replay.specs.Tree.{at};
 ghost use Rattle.least_replay.specs.CostView.{table_of, IsConfirmed};
 
 use crate::confirming::price_of;
@@ -11,29 +10,23 @@ use crate::solver::solve;
 use mt_base::Memory;
 use std::alloc::Global;
 
-/// The predecessor that a column stands for.
-fn predecessor(starts: usize, j: usize) -> Option<u16>
-    requires { j < starts + 65536 }
-    ensures { result ≡ before_of starts j }
+/// The run before that a column stands for.
+fn predecessor(runs: u16, j: usize) -> Option<u16>
+    ensures { result ≡ before_of runs j }
 {
-    if j < starts {
-        None
-    } else {
-        Some((j - starts) as u16)
-    }
+    if j < runs as usize { Some(j as u16) } else { None }
 }
 
 fn predecessors(
     alloc: Global,
-    starts: usize,
+    runs: u16,
     col_of: &[usize],
 ) -> Result<Vec<Option<u16>>, Memory>
-    requires { (i : ℕ) → i < length col_of.now → at col_of.now i < starts + 65536 }
-    ensures { IfOk result (λ before. before.items ≡ map (before_of starts) col_of.now) }
+    ensures { IfOk result (λ before. before.items ≡ map (before_of runs) col_of.now) }
 {
     let mut before = Vec::new(alloc);
     for j in col_of {
-        before.push(predecessor(starts, *j))?;
+        before.push(predecessor(runs, *j))?;
     }
     Ok(before)
 }
@@ -52,16 +45,14 @@ pub fn least_cover(alloc: Global, costs: &Costs) -> Result<Cover, Memory>
     ensures confirmed { IfOk result (λ cover. IsConfirmed costs.now cover) }
     ensures least { IfOk result (λ cover. IsLeast (table_of costs.now) cover.price) }
 {
-    let matrix = &costs.matrix;
-    let starts = matrix.starts() as usize;
-    let solution = solve(alloc, matrix)?;
-    let before = predecessors(alloc, starts, solution.col_of.as_slice())?;
+    let runs = costs.runs();
+    let solution = solve(alloc, costs)?;
+    let before = predecessors(alloc, runs, &solution.col_of[..runs as usize])?;
     let mut u = Vec::new(alloc);
-    append_signed(&mut u, solution.u.as_slice())?;
+    append_signed(&mut u, &solution.u[..runs as usize])?;
     let mut v = Vec::new(alloc);
-    append_signed(&mut v, &solution.v[starts..])?;
-    append_signed(&mut v, &solution.v[..starts])?;
-    let price = price_of(matrix, before.as_slice());
+    append_signed(&mut v, solution.v.as_slice())?;
+    let price = price_of(&costs.matrix, before.as_slice());
     Ok(Cover {
         before,
         price,
