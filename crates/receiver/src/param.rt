@@ -60,11 +60,18 @@ impl Param {
         rank_of(self.registered, self.high, self.low)
     }
 
+    /// The value that the parameter has at the start, whatever its value is here.
+    pub fn default_value(&self) -> (u8, u8)
+        ensures { result ≡ default_value (parameter_of self.now) }
+    {
+        default_of(self.registered, self.high, self.low)
+    }
+
     /// Whether its value is the one that it has at the start.
     pub(crate) fn is_default(&self) -> bool
         ensures { result ≡ pair_eq self.now.value (default_value (parameter_of self.now)) }
     {
-        let start = default_of(self.registered, self.high, self.low);
+        let start = self.default_value();
         self.value.0 == start.0 && self.value.1 == start.1
     }
 }

@@ -1,0 +1,5 @@
+pub mod Fronts
+pub mod Putting
+pub mod Walks
+pub mod Each
+pub mod Telling
