@@ -91,7 +91,9 @@ fn take_over(
     requires exists { place < count }
     requires tree { IsTree count tree.old }
     ensures tree { IsTree count tree.new }
-    ensures leaves { leaves count tree.new ≡ slice_set (numbers_in count tree.old before waiting) place number }
+    ensures leaves {
+        leaves count tree.new ≡ slice_set (numbers_in count tree.old before waiting) place number
+    }
     ensures others { IsBelowOthers result place (leaves count tree.new) }
 {
     if place != before {

@@ -55,7 +55,9 @@ impl TrackSet {
             (tracks : ℕ) (es : List MidiEvent) → StandFor self.old tracks es
                 → OnOk result (StandFor self.new tracks (es ++ view event.now ∷ []))
         }
-        ensures grows { all_bytes self.new ≤ all_bytes self.old + most_bytes (view event.now).what }
+        ensures grows {
+            all_bytes self.new ≤ all_bytes self.old + most_bytes (view event.now).what
+        }
         ensures unchanged { OnErr result (self.new ≡ self.old) }
     {
         self.tracks[event.track as usize].put(event.tick, &event.what)

@@ -1,5 +1,5 @@
 -- What the program's values mean in the text of a file.
-use Rattle.std.specs.Prelude.{ℕ, ◌+◌, List, length}
+use Rattle.std.specs.Prelude.{ℕ, ◌+◌, List, length, map}
 use Rattle.std.specs.Borrow.{Bor}
 use Rattle.mt_base.specs.Midi.{Timed, view_what}
 use Rattle.midi_model.specs.FileText as text
@@ -17,6 +17,10 @@ view_chunk c = record { name = c.name; content = c.content.now }
 abbrev pub content_of : Bor (List ℕ) → List ℕ
 content_of bytes = bytes.now
 
+abbrev pub contents_of : List (Bor (List ℕ)) → List (List ℕ)
+contents_of contents = map content_of contents
+
+-- an event that was read, as one of its track
 abbrev pub timed : Found → Timed
 timed f = record { tick = f.tick; what = view_what f.what }
 

@@ -1,12 +1,10 @@
-ghost use Rattle.std.specs.Prelude.{◌≡◌, ◌*◌, ◌<◌, ◌≤◌, ◌^◌, length, take, drop, map, IfOk, IfErr, Ok};
-ghost use Rattle.std.specs.Int.{w16, w32};
-ghost use Rattle.midi_model.specs.Reading.{Gives, Within, track_in};
-ghost use Rattle.midi_model.specs.FileText.{number, header_at, fields_at, chunk_at, next_content, track_at, tracks_at, all_at, file_at};
-ghost use Rattle.midi_model.specs.FileText.{MidiFile, events_of, together};
+ghost use Rattle.std.specs.Prelude.{◌≡◌, ◌*◌, ◌≤◌, length, IfOk, IfErr, Ok};
+ghost use Rattle.midi_model.specs.Reading.{Gives, Within};
+ghost use Rattle.midi_model.specs.FileText.{MidiFile, track_at, tracks_at, all_at, file_at};
 ghost use Rattle.midi_model.specs.Spelling.{Spells};
-ghost use Rattle.smf_read.specs.Views.{content_of, view_header, view_chunk};
+ghost use Rattle.smf_read.specs.Views.{content_of, contents_of};
 ghost use Rattle.smf_read.specs.Files.{Finds, Reads, IsFirst};
-ghost use Rattle.smf_read.specs.Sound.{AreSound};
+ghost use Rattle.smf_read.specs.Sound.{AreSound, count_events};
 
 use crate::chunk::{next_content, read_header};
 use crate::cursor::fault_in;
@@ -15,7 +13,7 @@ use crate::smf::Smf;
 use midi_model::{MOST_BYTES, Stop, file_laws, reading_laws};
 use std::alloc::Global;
 
-/// The next track.
+/// The content of the next track chunk that has no fault in it, and the bytes behind it.
 #[tactic(auto, unfolding(midi_model::specs::FileText::track_at))]
 fn track(bytes: &[u8]) -> Result<(&[u8], &[u8]), Stop>
     ensures gives { Gives content_of result (track_at bytes.entry.now) }
@@ -31,12 +29,18 @@ fn track(bytes: &[u8]) -> Result<(&[u8], &[u8]), Stop>
     }
 }
 
-/// So many tracks.
+/// The contents of so many track chunks, and the bytes behind them.
 fn tracks<'a>(alloc: Global, count: u16, bytes: &'a [u8]) -> Result<(Vec<&'a [u8]>, &'a [u8]), Halt>
-    ensures gives { Finds (λ x. (map content_of x.0.items, x.1.now)) result (tracks_at count bytes.entry.now) }
+    ensures gives {
+        Finds (λ x. (contents_of x.0.items, x.1.now)) result (tracks_at count bytes.entry.now)
+    }
     ensures count { IfOk result (λ x. length x.0.items ≡ count) }
-    ensures sound { length bytes.entry.now ≤ MOST_BYTES → IfOk result (λ x. AreSound (map content_of x.0.items)) }
-    ensures together { IfOk result (λ x. 2 * together (map events_of (map content_of x.0.items)) ≤ length bytes.entry.now) }
+    ensures sound {
+        length bytes.entry.now ≤ MOST_BYTES → IfOk result (λ x. AreSound (contents_of x.0.items))
+    }
+    ensures together {
+        IfOk result (λ x. 2 * count_events (contents_of x.0.items) ≤ length bytes.entry.now)
+    }
 {
     reading_laws();
     let mut contents = Vec::new(alloc);
@@ -82,7 +86,7 @@ pub fn read_smf(alloc: Global, bytes: &[u8]) -> Result<Smf<'_>, SmfFault>
     ensures found { IfOk result (λ f. Spells bytes.entry.now (f)) }
     // What the bytes spell is read, unless memory runs out.
     ensures only { (file : MidiFile) → Spells bytes.entry.now file → Reads result (Ok file) }
-    // Otherwise the answer is the bytes' first fault: what is wrong after the longest front that
+    // Otherwise the answer is the bytes' first fault: what is wrong after the longest prefix that
     // breaks no rule.
     ensures fault { IfErr result (λ e. IsFirst bytes.entry.now e) }
     // The same, by reading from left to right.

@@ -1,5 +1,5 @@
 use crate::cursor::Cursor;
-use midi_model::{merged_order, reading_laws};
+use midi_model::{MOST_EVENTS, MOST_TRACKS, merged_order, reading_laws};
 use std::marker::Model;
 
 /// A file that was read: 1 to 1,024 tracks with at most 2,097,152 events together.
@@ -11,16 +11,15 @@ pub struct Smf<'a> {
 }
 
 impl<'a> Model for Smf<'a> {
-    ghost use Rattle.std.specs.Prelude.{map};
     ghost use Rattle.midi_model.specs.FileText.{MidiFile, made};
-    ghost use Rattle.smf_read.specs.Views.{content_of};
+    ghost use Rattle.smf_read.specs.Views.{contents_of};
     ghost use Rattle.smf_read.specs.Sound.{AreChecked};
 
     ghost Value = { MidiFile };
 
-    ghost view = { λ f. made f.format f.division (map content_of f.contents.items) };
+    ghost view = { λ f. made f.format f.division (contents_of f.contents.items) };
 
-    ghost invariant = { λ f. AreChecked (map content_of f.contents.items) };
+    ghost invariant = { λ f. AreChecked (contents_of f.contents.items) };
 }
 
 impl<'a> Smf<'a> {
@@ -28,13 +27,13 @@ impl<'a> Smf<'a> {
     ghost use Rattle.mt_base.specs.Midi.{placed};
     ghost use Rattle.midi_model.specs.FileText.{made};
     ghost use Rattle.midi_model.specs.Merged.{merged, AreTracksOf, IsTrackOf, IsPlayable};
-    ghost use Rattle.smf_read.specs.Views.{content_of};
+    ghost use Rattle.smf_read.specs.Views.{contents_of};
     ghost use Rattle.smf_read.specs.Sound.{AreChecked};
     ghost use Rattle.smf_read.specs.Remaining.{remaining, all_of};
 
     pub(crate) fn new(format: u16, division: u16, contents: Vec<&'a [u8]>) -> Smf<'a>
-        requires { AreChecked (map content_of contents.items) }
-        ensures { result ≡ made format division (map content_of contents.entry.items) }
+        requires { AreChecked (contents_of contents.items) }
+        ensures { result ≡ made format division (contents_of contents.entry.items) }
     {
         Smf {
             format,
@@ -61,8 +60,8 @@ impl<'a> Smf<'a> {
     pub fn tracks(&self) -> u16
         ensures value { result ≡ length self.now.tracks }
         ensures some { 0 < result }
-        ensures few { result ≤ 1024 }
-        ensures in_all { length (merged self.now) ≤ 2097152 }
+        ensures few { result ≤ MOST_TRACKS }
+        ensures in_all { length (merged self.now) ≤ MOST_EVENTS }
         ensures each { AreTracksOf 0 self.now.tracks }
         ensures playable { IsPlayable (length self.now.tracks) (merged self.now) }
     {

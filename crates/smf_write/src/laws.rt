@@ -14,7 +14,9 @@ pub fn written_is_read()
         (file other : MidiFile) → IsWritableFile file → Spells (file_bytes file) other
             → other ≡ file
     }
-    ensures again { (file : MidiFile) → IsWritableFile file → file_at (file_bytes file) ≡ Ok file }
+    ensures again {
+        (file : MidiFile) → IsWritableFile file → file_at (file_bytes file) ≡ Ok file
+    }
     ensures shortest { QuantityIsShortest }
 {
     file_laws();
