@@ -2,15 +2,15 @@
 use Rattle.std.proofs.Common.{◌≡◌, ℕ, zero, suc, ◌+◌, ◌*◌, ◌<◌, ◌⊎◌, List, [], ◌∷◌, ◌++◌, length, Result, Ok, Err, true, false, refl, sym, ap, subst, ◌∙◌, inl, inr, arith}
 use Rattle.std.specs.Prelude.{◌==◌, ◌||◌, nat_lt, nat_le}
 use Rattle.std.proofs.lemmas.Bool.{eqb-true, eqb-false, leb-true, ltb-false, le-ltb, and_parts, or_parts, or_from, ne_eqb, cases_Bool, cond-true, cond-false}
-use Rattle.scala_lines.specs.Characters.{is_digit, is_blank, front, Are, StopsAt, digits_of, after_digits, after_blanks}
+use Rattle.scala_lines.specs.Characters.{is_digit, is_blank, prefix, Are, StopsAt, digits_of, after_digits, after_blanks}
 use Rattle.scala_lines.specs.Numbers.{value, billionths}
 use Rattle.scala_lines.specs.Spelling.{IsNumber}
 use Rattle.kbm_text.specs.declared.fault.KbmKind.{KbmKind}
 use Rattle.kbm_text.specs.declared.fault.KbmKind.TheVariants.{BadFrequency}
 use Rattle.kbm_text.specs.Field.{ranged, decimals_of, nanohertz_of, frequency_of, greatest_frequency}
 use Rattle.kbm_text.specs.Spelling.{digit_or_period, HasFrequency, IsFrequency, NoFrequency}
-use Rattle.kbm_text.proofs.Premises.{Fronts}
-use Rattle.kbm_text.proofs.Results.{chosen}
+use Rattle.scala_lines.specs.Laws.{ArePrefixes}
+use Rattle.scala_lines.specs.Steps.{chosen}
 use Rattle.kbm_text.proofs.Fields.{ok_is, err_is, ok_not_err}
 
 -- the two parts of a frequency
@@ -42,19 +42,19 @@ some_no_blank : (digits rest : List ℕ) → IsNumber digits → StopsAt is_blan
 some_no_blank [] rest n = absurd (let h = n.1 in omega (arith, h))
 some_no_blank (d ∷ ds) rest n = digit_no_blank d n.0.0
 
-parts_again : Fronts → (line whole decimals : List ℕ) → HasFrequency line whole decimals → (whole_of line ≡ whole) × (part_of line ≡ decimals) × (0 < length whole + length decimals)
-parts_again fronts line whole decimals (inl ((blanks, rest, b, n, s, e), d)) =
-    let t : after_blanks line ≡ whole ++ rest = ap after_blanks e ∙ fronts.behind is_blank blanks (whole ++ rest) b (some_no_blank whole rest n) in
+parts_again : ArePrefixes → (line whole decimals : List ℕ) → HasFrequency line whole decimals → (whole_of line ≡ whole) × (part_of line ≡ decimals) × (0 < length whole + length decimals)
+parts_again prefixes line whole decimals (inl ((blanks, rest, b, n, s, e), d)) =
+    let t : after_blanks line ≡ whole ++ rest = ap after_blanks e ∙ prefixes.behind is_blank blanks (whole ++ rest) b (some_no_blank whole rest n) in
     let some = n.1 in (
-      ap digits_of t ∙ fronts.front is_digit whole rest n.0 (stops_digit rest s),
-      ap (λ r. decimals_of (after_digits r)) t ∙ ap decimals_of (fronts.behind is_digit whole rest n.0 (stops_digit rest s)) ∙ no_decimals rest s ∙ sym d,
+      ap digits_of t ∙ prefixes.prefix is_digit whole rest n.0 (stops_digit rest s),
+      ap (λ r. decimals_of (after_digits r)) t ∙ ap decimals_of (prefixes.behind is_digit whole rest n.0 (stops_digit rest s)) ∙ no_decimals rest s ∙ sym d,
       omega (arith, some),
     )
-parts_again fronts line whole decimals (inr (blanks, rest, b, w, f, some, s, e)) =
+parts_again prefixes line whole decimals (inr (blanks, rest, b, w, f, some, s, e)) =
     let tail = 46 ∷ (decimals ++ rest) in
-    let t : after_blanks line ≡ whole ++ tail = ap after_blanks e ∙ fronts.behind is_blank blanks (whole ++ tail) b (number_no_blank whole tail w refl) in (
-      ap digits_of t ∙ fronts.front is_digit whole tail w refl,
-      ap (λ r. decimals_of (after_digits r)) t ∙ ap decimals_of (fronts.behind is_digit whole tail w refl) ∙ fronts.front is_digit decimals rest f s,
+    let t : after_blanks line ≡ whole ++ tail = ap after_blanks e ∙ prefixes.behind is_blank blanks (whole ++ tail) b (number_no_blank whole tail w refl) in (
+      ap digits_of t ∙ prefixes.prefix is_digit whole tail w refl,
+      ap (λ r. decimals_of (after_digits r)) t ∙ ap decimals_of (prefixes.behind is_digit whole tail w refl) ∙ prefixes.prefix is_digit decimals rest f s,
       some,
     )
 
@@ -63,55 +63,55 @@ parts_again fronts line whole decimals (inr (blanks, rest, b, w, f, some, s, e))
 abbrev Found : List ℕ → Type 0
 Found line = HasFrequency line (whole_of line) (part_of line)
 
-found_by : Fronts → (line behind : List ℕ) → after_digits (after_blanks line) ≡ behind → 0 < length (whole_of line) + length (decimals_of behind) → HasFrequency line (whole_of line) (decimals_of behind)
-found_by fronts line [] a some =
+found_by : ArePrefixes → (line behind : List ℕ) → after_digits (after_blanks line) ≡ behind → 0 < length (whole_of line) + length (decimals_of behind) → HasFrequency line (whole_of line) (decimals_of behind)
+found_by prefixes line [] a some =
     let w = whole_of line in
     let some2 : 0 < length w = omega (arith, some) in
     inl (
       (
-        front is_blank line,
+        prefix is_blank line,
         [],
-        fronts.passes is_blank line,
-        (fronts.passes is_digit (after_blanks line), some2),
+        prefixes.passes is_blank line,
+        (prefixes.passes is_digit (after_blanks line), some2),
         tt,
-        sym (fronts.whole is_blank line) ∙ ap (λ r. front is_blank line ++ r) (sym (fronts.whole is_digit (after_blanks line)) ∙ ap (λ r. w ++ r) a),
+        sym (prefixes.whole is_blank line) ∙ ap (λ r. prefix is_blank line ++ r) (sym (prefixes.whole is_digit (after_blanks line)) ∙ ap (λ r. w ++ r) a),
       ),
       refl,
     )
-found_by fronts line (b ∷ bs) a some =
+found_by prefixes line (b ∷ bs) a some =
     let w = whole_of line in
-    let whole : line ≡ front is_blank line ++ (w ++ b ∷ bs) =
-    (sym (fronts.whole is_blank line) ∙ ap (λ r. front is_blank line ++ r) (sym (fronts.whole is_digit (after_blanks line)) ∙ ap (λ r. w ++ r) a)) in
-    let no : is_digit b ≡ false = (let P : List ℕ → Type 0 = λ r. StopsAt is_digit r in subst P a (fronts.stops is_digit (after_blanks line))) in
+    let whole : line ≡ prefix is_blank line ++ (w ++ b ∷ bs) =
+    (sym (prefixes.whole is_blank line) ∙ ap (λ r. prefix is_blank line ++ r) (sym (prefixes.whole is_digit (after_blanks line)) ∙ ap (λ r. w ++ r) a)) in
+    let no : is_digit b ≡ false = (let P : List ℕ → Type 0 = λ r. StopsAt is_digit r in subst P a (prefixes.stops is_digit (after_blanks line))) in
     let Q : List ℕ → Type 0 = λ ds. 0 < length w + length ds → HasFrequency line w ds in
     elim (cases_Bool (b == 46)) [
       | inl p ↦ subst Q (sym (cond-true (b == 46) (digits_of bs) [] p)) (λ h.
           inr (
-            front is_blank line,
+            prefix is_blank line,
             after_digits bs,
-            fronts.passes is_blank line,
-            fronts.passes is_digit (after_blanks line),
-            fronts.passes is_digit bs,
+            prefixes.passes is_blank line,
+            prefixes.passes is_digit (after_blanks line),
+            prefixes.passes is_digit bs,
             h,
-            fronts.stops is_digit bs,
-            whole ∙ ap (λ c. front is_blank line ++ (w ++ c ∷ bs)) (eqb-true b 46 p) ∙ ap (λ r. front is_blank line ++ (w ++ 46 ∷ r)) (sym (fronts.whole is_digit bs)),
+            prefixes.stops is_digit bs,
+            whole ∙ ap (λ c. prefix is_blank line ++ (w ++ c ∷ bs)) (eqb-true b 46 p) ∙ ap (λ r. prefix is_blank line ++ (w ++ 46 ∷ r)) (sym (prefixes.whole is_digit bs)),
           )) some
       | inr n ↦ subst Q (sym (cond-false (b == 46) (digits_of bs) [] n)) (λ h.
-          inl ((front is_blank line, b ∷ bs, fronts.passes is_blank line, (fronts.passes is_digit (after_blanks line), omega (arith, h)), or_from _ _ no n, whole), refl)) some
+          inl ((prefix is_blank line, b ∷ bs, prefixes.passes is_blank line, (prefixes.passes is_digit (after_blanks line), omega (arith, h)), or_from _ _ no n, whole), refl)) some
     ]
 
-found : Fronts → (line : List ℕ) → 0 < length (whole_of line) + length (part_of line) → Found line
-found fronts line some = found_by fronts line (after_digits (after_blanks line)) refl some
+found : ArePrefixes → (line : List ℕ) → 0 < length (whole_of line) + length (part_of line) → Found line
+found prefixes line some = found_by prefixes line (after_digits (after_blanks line)) refl some
 
 -- ---- the value
 
 abbrev nano : List ℕ → List ℕ → ℕ
 nano whole decimals = value whole * 1000000000 + billionths decimals
 
-pub frequency_again : Fronts → (line : List ℕ) (n : ℕ) → IsFrequency line n → frequency_of line ≡ Ok n
+pub frequency_again : ArePrefixes → (line : List ℕ) (n : ℕ) → IsFrequency line n → frequency_of line ≡ Ok n
 unfolding frequency_of
-frequency_again fronts line n (whole, decimals, has, is, low, high) =
-    let p = parts_again fronts line whole decimals has in
+frequency_again prefixes line n (whole, decimals, has, is, low, high) =
+    let p = parts_again prefixes line whole decimals has in
     ap (λ r. nanohertz_of r (part_of line)) p.0 ∙ ap (nanohertz_of whole) p.1
     ∙ (rw (
       ne_eqb (length whole + length decimals) 0 (let some = p.2 in λ e. omega (arith, some, e)),
@@ -122,9 +122,9 @@ frequency_again fronts line n (whole, decimals, has, is, low, high) =
 nonzero : (n : ℕ) → (n == 0) ≡ false → 0 < n
 nonzero n e = let h = eqb-false n 0 e in elim n as (λ k. (k ≡ 0 → ⊥) → 0 < k) [ zero ↦ λ g. absurd (g refl) | suc k ↦ λ g. omega arith ] h
 
-pub frequency_takes : Fronts → (line : List ℕ) (n : ℕ) → frequency_of line ≡ Ok n → IsFrequency line n
+pub frequency_takes : ArePrefixes → (line : List ℕ) (n : ℕ) → frequency_of line ≡ Ok n → IsFrequency line n
 unfolding frequency_of
-frequency_takes fronts line n e =
+frequency_takes prefixes line n e =
     let w = whole_of line in let d = part_of line in
     elim (chosen (length w + length d == 0) (Err BadFrequency) (ranged BadFrequency 1 greatest_frequency (nano w d)) (Ok n) e) [
       | inl t ↦ absurd (ok_not_err n BadFrequency (sym t.1))
@@ -134,7 +134,7 @@ frequency_takes fronts line n e =
             let p = or_parts (nat_lt (nano w d) 1) (nat_lt greatest_frequency (nano w d)) u.0 in
             let some = nonzero (length w + length d) t.0 in
             subst (IsFrequency line) (ok_is (nano w d) n u.1)
-            (w, d, found fronts line some, refl, ltb-false (nano w d) 1 p.0, ltb-false greatest_frequency (nano w d) p.1)
+            (w, d, found prefixes line some, refl, ltb-false (nano w d) 1 p.0, ltb-false greatest_frequency (nano w d) p.1)
       ]
     ]
 
@@ -155,11 +155,11 @@ only_bad line kind e =
       ]
     ]
 
-pub no_frequency_takes : Fronts → (line : List ℕ) (kind : KbmKind) → frequency_of line ≡ Err kind → NoFrequency line kind
-no_frequency_takes fronts line kind e = (only_bad line kind e, λ n is. ok_not_err n kind (sym (frequency_again fronts line n is) ∙ e))
+pub no_frequency_takes : ArePrefixes → (line : List ℕ) (kind : KbmKind) → frequency_of line ≡ Err kind → NoFrequency line kind
+no_frequency_takes prefixes line kind e = (only_bad line kind e, λ n is. ok_not_err n kind (sym (frequency_again prefixes line n is) ∙ e))
 
-pub no_frequency_again : Fronts → (line : List ℕ) (kind : KbmKind) → NoFrequency line kind → frequency_of line ≡ Err kind
-no_frequency_again fronts line kind (bad, none) = elim (known (frequency_of line)) [
-  | inl o ↦ absurd (none o.0 (frequency_takes fronts line o.0 o.1))
+pub no_frequency_again : ArePrefixes → (line : List ℕ) (kind : KbmKind) → NoFrequency line kind → frequency_of line ≡ Err kind
+no_frequency_again prefixes line kind (bad, none) = elim (known (frequency_of line)) [
+  | inl o ↦ absurd (none o.0 (frequency_takes prefixes line o.0 o.1))
   | inr k ↦ rw bad (k.1 ∙ ap (λ (q : KbmKind). let r : Result ℕ KbmKind = Err q in r) (only_bad line k.0 k.1))
 ]

@@ -1,7 +1,6 @@
-pub mod Premises
-pub mod Results
 pub mod Entries
 pub mod Fields
 pub mod Frequencies
 pub mod Maps
 pub mod Answered
+mod CutMappings

@@ -3,51 +3,43 @@ use Rattle.std.proofs.Common.{◌≡◌, ℕ, zero, suc, ◌+◌, ◌≤◌, Lis
 use Rattle.scala_lines.specs.Lines.{Numbered, content}
 use Rattle.kbm_text.specs.declared.fault.KbmKind.{KbmKind}
 use Rattle.kbm_text.specs.declared.fault.KbmKind.TheVariants.{MissingField, SizeRange, KeyRange, DegreeRange}
-use Rattle.kbm_text.specs.Reading.{Fault, ◌>>=◌, fault, on_line, field_at, Keys, keys_at, entry_lines, entries_at, map_at, map_of}
+use Rattle.scala_lines.specs.Reading.{Fault, ◌>>=◌, fault, on_line}
+use Rattle.kbm_text.specs.Reading.{field_at, Keys, keys_at, entry_lines, entries_at, map_at, map_of}
 use Rattle.kbm_text.specs.Field.{number_in, frequency_of, entry_of}
 use Rattle.kbm_text.specs.Map.{KeyMap}
 use Rattle.kbm_text.specs.Spelling.{IsIn, NotIn, IsFrequency, NoFrequency, IsEntry, AreEntries, IsMap, MapText, EntriesFault, FieldFault, OctaveFault, FrequencyFault, ReferenceFault, MiddleFault, LastFault, FirstFault, IsFault, MapFault}
-use Rattle.kbm_text.proofs.Premises.{Fronts, Numbers}
-use Rattle.kbm_text.proofs.Results.{bind_ok, bind_err, on_line_ok, on_line_err}
+use Rattle.scala_lines.specs.Laws.{ArePrefixes, AreNumbers}
+use Rattle.scala_lines.specs.Steps.{ok_is, err_is, ok_not_err, bind_ok, bind_err, on_line_ok, on_line_err}
 use Rattle.kbm_text.proofs.Fields.{in_takes, in_again, out_takes, out_again, entry_takes, entry_again, no_entry_takes, no_entry_again}
 use Rattle.kbm_text.proofs.Frequencies.{frequency_takes, frequency_again, no_frequency_takes, no_frequency_again}
 
-ok_is : {A : Type 0} (x y : A) → (let r : Result A Fault = Ok x in r) ≡ Ok y → x ≡ y
-ok_is x y e = cc
-
-err_is : {A : Type 0} (x y : Fault) → (let r : Result A Fault = Err x in r) ≡ Err y → x ≡ y
-err_is x y e = cc
-
-ok_not_err : {A : Type 0} (x : A) (f : Fault) → (let r : Result A Fault = Ok x in r) ≡ Err f → ⊥
-ok_not_err x f e = cc
-
 -- ---- entries
 
-entries_take : Fronts → Numbers → (n : ℕ) (lines : List Numbered) (entries : List (Option ℕ)) → entries_at n lines ≡ Ok entries → AreEntries n lines entries
+entries_take : ArePrefixes → AreNumbers → (n : ℕ) (lines : List Numbered) (entries : List (Option ℕ)) → entries_at n lines ≡ Ok entries → AreEntries n lines entries
 unfolding entries_at
-entries_take fronts numbers zero lines entries e = sym (ok_is [] entries e)
-entries_take fronts numbers (suc n) [] entries e =
+entries_take prefixes numbers zero lines entries e = sym (ok_is [] entries e)
+entries_take prefixes numbers (suc n) [] entries e =
     let b = bind_ok (entries_at n []) _ entries e in
-    subst (AreEntries (suc n) []) (ok_is (None ∷ b.0) entries b.2) (refl, entries_take fronts numbers n [] b.0 b.1)
-entries_take fronts numbers (suc n) (line ∷ lines) entries e =
+    subst (AreEntries (suc n) []) (ok_is (None ∷ b.0) entries b.2) (refl, entries_take prefixes numbers n [] b.0 b.1)
+entries_take prefixes numbers (suc n) (line ∷ lines) entries e =
     let a = bind_ok (on_line line.number (entry_of line.bytes)) _ entries e in
     let b = bind_ok (entries_at n lines) _ entries a.2 in
     subst (AreEntries (suc n) (line ∷ lines)) (ok_is (a.0 ∷ b.0) entries b.2)
-    (entry_takes fronts numbers line.bytes a.0 (on_line_ok line.number (entry_of line.bytes) a.0 a.1), entries_take fronts numbers n lines b.0 b.1)
+    (entry_takes prefixes numbers line.bytes a.0 (on_line_ok line.number (entry_of line.bytes) a.0 a.1), entries_take prefixes numbers n lines b.0 b.1)
 
-entries_again : Fronts → Numbers → (n : ℕ) (lines : List Numbered) (entries : List (Option ℕ)) → AreEntries n lines entries → entries_at n lines ≡ Ok entries
+entries_again : ArePrefixes → AreNumbers → (n : ℕ) (lines : List Numbered) (entries : List (Option ℕ)) → AreEntries n lines entries → entries_at n lines ≡ Ok entries
 unfolding entries_at
-entries_again fronts numbers zero lines entries a = rw a refl
-entries_again fronts numbers (suc n) [] [] a = absurd a
-entries_again fronts numbers (suc n) (line ∷ lines) [] a = absurd a
-entries_again fronts numbers (suc n) [] (entry ∷ entries) a = rw (entries_again fronts numbers n [] entries a.1, a.0) refl
-entries_again fronts numbers (suc n) (line ∷ lines) (entry ∷ entries) a = rw (entry_again fronts numbers line.bytes entry a.0, entries_again fronts numbers n lines entries a.1) refl
+entries_again prefixes numbers zero lines entries a = rw a refl
+entries_again prefixes numbers (suc n) [] [] a = absurd a
+entries_again prefixes numbers (suc n) (line ∷ lines) [] a = absurd a
+entries_again prefixes numbers (suc n) [] (entry ∷ entries) a = rw (entries_again prefixes numbers n [] entries a.1, a.0) refl
+entries_again prefixes numbers (suc n) (line ∷ lines) (entry ∷ entries) a = rw (entry_again prefixes numbers line.bytes entry a.0, entries_again prefixes numbers n lines entries a.1) refl
 
 -- a fault, seen by its line and its kind
-abbrev On : (ℕ → KbmKind → Type 0) → Fault → Type 0
+abbrev On : (ℕ → KbmKind → Type 0) → Fault KbmKind → Type 0
 On P f = P f.line f.kind
 
-none_left : (n : ℕ) (f : Fault) → entries_at n [] ≡ Err f → ⊥
+none_left : (n : ℕ) (f : Fault KbmKind) → entries_at n [] ≡ Err f → ⊥
 unfolding entries_at
 none_left zero f e = ok_not_err {A = List (Option ℕ)} [] f e
 none_left (suc n) f e = elim (bind_err (entries_at n []) (λ entries. Ok (None ∷ entries)) f e) [
@@ -55,26 +47,26 @@ none_left (suc n) f e = elim (bind_err (entries_at n []) (λ entries. Ok (None �
   | inr b ↦ ok_not_err {A = List (Option ℕ)} (None ∷ b.0) f b.2
 ]
 
-entries_fault : Fronts → Numbers → (n : ℕ) (lines : List Numbered) (f : Fault) → entries_at n lines ≡ Err f → On (EntriesFault n lines) f
+entries_fault : ArePrefixes → AreNumbers → (n : ℕ) (lines : List Numbered) (f : Fault KbmKind) → entries_at n lines ≡ Err f → On (EntriesFault n lines) f
 unfolding entries_at
-entries_fault fronts numbers zero lines f e = absurd (ok_not_err {A = List (Option ℕ)} [] f e)
-entries_fault fronts numbers (suc n) [] f e = absurd (none_left (suc n) f e)
-entries_fault fronts numbers (suc n) (line ∷ lines) f e =
+entries_fault prefixes numbers zero lines f e = absurd (ok_not_err {A = List (Option ℕ)} [] f e)
+entries_fault prefixes numbers (suc n) [] f e = absurd (none_left (suc n) f e)
+entries_fault prefixes numbers (suc n) (line ∷ lines) f e =
     elim (bind_err (on_line line.number (entry_of line.bytes)) (λ entry. entries_at n lines >>= λ entries. Ok (entry ∷ entries)) f e) [
       | inl b ↦ let p = on_line_err line.number (entry_of line.bytes) f b in
-          subst (On (EntriesFault (suc n) (line ∷ lines))) (sym p.2) (inl (refl, no_entry_takes fronts numbers line.bytes p.0 p.1))
+          subst (On (EntriesFault (suc n) (line ∷ lines))) (sym p.2) (inl (refl, no_entry_takes prefixes numbers line.bytes p.0 p.1))
       | inr b ↦ elim (bind_err (entries_at n lines) (λ entries. Ok (b.0 ∷ entries)) f b.2) [
-        | inl d ↦ inr (b.0, entry_takes fronts numbers line.bytes b.0 (on_line_ok line.number (entry_of line.bytes) b.0 b.1), entries_fault fronts numbers n lines f d)
+        | inl d ↦ inr (b.0, entry_takes prefixes numbers line.bytes b.0 (on_line_ok line.number (entry_of line.bytes) b.0 b.1), entries_fault prefixes numbers n lines f d)
         | inr d ↦ absurd (ok_not_err {A = List (Option ℕ)} (b.0 ∷ d.0) f d.2)
       ]
     ]
 
-entries_fault_again : Fronts → Numbers → (n : ℕ) (lines : List Numbered) (line : ℕ) (kind : KbmKind) → EntriesFault n lines line kind → entries_at n lines ≡ fault line kind
+entries_fault_again : ArePrefixes → AreNumbers → (n : ℕ) (lines : List Numbered) (line : ℕ) (kind : KbmKind) → EntriesFault n lines line kind → entries_at n lines ≡ fault line kind
 unfolding entries_at
-entries_fault_again fronts numbers zero lines line kind h = absurd h
-entries_fault_again fronts numbers (suc n) [] line kind h = absurd h
-entries_fault_again fronts numbers (suc n) (first ∷ lines) line kind (inl h) = rw (no_entry_again fronts numbers first.bytes kind h.1, h.0) refl
-entries_fault_again fronts numbers (suc n) (first ∷ lines) line kind (inr (entry, is, h)) = rw (entry_again fronts numbers first.bytes entry is, entries_fault_again fronts numbers n lines line kind h) refl
+entries_fault_again prefixes numbers zero lines line kind h = absurd h
+entries_fault_again prefixes numbers (suc n) [] line kind h = absurd h
+entries_fault_again prefixes numbers (suc n) (first ∷ lines) line kind (inl h) = rw (no_entry_again prefixes numbers first.bytes kind h.1, h.0) refl
+entries_fault_again prefixes numbers (suc n) (first ∷ lines) line kind (inr (entry, is, h)) = rw (entry_again prefixes numbers first.bytes entry is, entries_fault_again prefixes numbers n lines line kind h) refl
 
 -- what a mapping keeps of them
 many : (n : ℕ) (lines : List Numbered) (entries : List (Option ℕ)) → AreEntries n lines entries → length entries ≡ n
@@ -84,8 +76,8 @@ many (suc n) (line ∷ lines) [] a = absurd a
 many (suc n) [] (entry ∷ entries) a = let h = many n [] entries a.1 in omega (arith, h)
 many (suc n) (line ∷ lines) (entry ∷ entries) a = let h = many n lines entries a.1 in omega (arith, h)
 
-pub as_many : Fronts → Numbers → (n : ℕ) (lines : List Numbered) (entries : List (Option ℕ)) → entries_at n lines ≡ Ok entries → length entries ≡ n
-as_many fronts numbers n lines entries e = many n lines entries (entries_take fronts numbers n lines entries e)
+pub as_many : ArePrefixes → AreNumbers → (n : ℕ) (lines : List Numbered) (entries : List (Option ℕ)) → entries_at n lines ≡ Ok entries → length entries ≡ n
+as_many prefixes numbers n lines entries e = many n lines entries (entries_take prefixes numbers n lines entries e)
 
 degree_low : (line : List ℕ) (entry : Option ℕ) (degree : ℕ) → IsEntry line entry → entry ≡ Some degree → degree ≤ 16383
 degree_low line None degree i e = absurd cc
@@ -101,8 +93,8 @@ each_low (suc n) [] (entry ∷ entries) a (suc k) degree e = each_low n [] entri
 each_low (suc n) (line ∷ lines) (entry ∷ entries) a zero degree e = degree_low line.bytes entry degree a.0 (let h : entry ≡ Some degree = cc in h)
 each_low (suc n) (line ∷ lines) (entry ∷ entries) a (suc k) degree e = each_low n lines entries a.1 k degree e
 
-pub degrees : Fronts → Numbers → (n : ℕ) (lines : List Numbered) (entries : List (Option ℕ)) → entries_at n lines ≡ Ok entries → (k degree : ℕ) → slice_get entries k ≡ Some (Some degree) → degree ≤ 16383
-degrees fronts numbers n lines entries e = each_low n lines entries (entries_take fronts numbers n lines entries e)
+pub degrees : ArePrefixes → AreNumbers → (n : ℕ) (lines : List Numbered) (entries : List (Option ℕ)) → entries_at n lines ≡ Ok entries → (k degree : ℕ) → slice_get entries k ≡ Some (Some degree) → degree ≤ 16383
+degrees prefixes numbers n lines entries e = each_low n lines entries (entries_take prefixes numbers n lines entries e)
 
 -- ---- one field
 
@@ -121,7 +113,7 @@ unfolding field_at
 field_again missing read line lines n e = rw e refl
 
 -- the fault of a field and what comes behind it
-stopped : {A : Type 0} (missing : ℕ) (read : List ℕ → Result ℕ KbmKind) (next : ℕ × List Numbered → Result A Fault) (lines : List Numbered) (f : Fault)
+stopped : {A : Type 0} (missing : ℕ) (read : List ℕ → Result ℕ KbmKind) (next : ℕ × List Numbered → Result A (Fault KbmKind)) (lines : List Numbered) (f : Fault KbmKind)
     (good : List ℕ → ℕ → Type 0) (bad : List ℕ → KbmKind → Type 0) (behind : ℕ → List Numbered → ℕ → KbmKind → Type 0)
     → ((line : List ℕ) (n : ℕ) → read line ≡ Ok n → good line n) → ((line : List ℕ) (kind : KbmKind) → read line ≡ Err kind → bad line kind)
     → ((n : ℕ) (rest : List Numbered) → next (n, rest) ≡ Err f → On (behind n rest) f)
@@ -142,7 +134,7 @@ stopped {A} missing read next (line ∷ lines) f good bad behind g b h e =
           inr (y.0, g line.bytes y.0 (on_line_ok line.number (read line.bytes) y.0 y.1), h y.0 lines (ap next same ∙ x.2))
     ]
 
-stopped_again : {A : Type 0} (missing : ℕ) (read : List ℕ → Result ℕ KbmKind) (next : ℕ × List Numbered → Result A Fault) (lines : List Numbered) (line : ℕ) (kind : KbmKind)
+stopped_again : {A : Type 0} (missing : ℕ) (read : List ℕ → Result ℕ KbmKind) (next : ℕ × List Numbered → Result A (Fault KbmKind)) (lines : List Numbered) (line : ℕ) (kind : KbmKind)
     (good : List ℕ → ℕ → Type 0) (bad : List ℕ → KbmKind → Type 0) (behind : ℕ → List Numbered → ℕ → KbmKind → Type 0)
     → ((l : List ℕ) (n : ℕ) → good l n → read l ≡ Ok n) → ((l : List ℕ) (k : KbmKind) → bad l k → read l ≡ Err k)
     → ((n : ℕ) (rest : List Numbered) → behind n rest line kind → next (n, rest) ≡ fault line kind)
@@ -155,7 +147,7 @@ stopped_again missing read next (first ∷ lines) line kind good bad behind g b 
 -- ---- the text
 
 -- where one field comes after another
-binds : {A B C : Type 0} (r : Result A Fault) (f : A → Result B Fault) (g : B → Result C Fault) → ((r >>= f) >>= g) ≡ (r >>= λ x. f x >>= g)
+binds : {A B C : Type 0} (r : Result A (Fault KbmKind)) (f : A → Result B (Fault KbmKind)) (g : B → Result C (Fault KbmKind)) → ((r >>= f) >>= g) ≡ (r >>= λ x. f x >>= g)
 binds (Ok x) f g = refl
 binds (Err e) f g = refl
 
@@ -171,9 +163,9 @@ made keys frequency octave entries = record {
   entries = entries;
 }
 
-map_takes : Fronts → Numbers → (missing : ℕ) (lines : List Numbered) (m : KeyMap) → map_at missing lines ≡ Ok m → IsMap lines m
+map_takes : ArePrefixes → AreNumbers → (missing : ℕ) (lines : List Numbered) (m : KeyMap) → map_at missing lines ≡ Ok m → IsMap lines m
 unfolding map_at keys_at made
-map_takes fronts numbers missing lines m e =
+map_takes prefixes numbers missing lines m e =
     let a = bind_ok (field_at missing (number_in SizeRange 0 4096) lines) _ m e in
     let k = bind_ok (keys_at missing a.0.1) _ m a.2 in
     let f = bind_ok (field_at missing frequency_of k.0.1) _ m k.2 in
@@ -205,41 +197,41 @@ map_takes fronts numbers missing lines m e =
       in_takes numbers KeyRange k1.0.0 127 l3.0.bytes k2.0.0 l3.2,
       in_takes numbers KeyRange 0 127 l4.0.bytes k3.0.0 l4.2,
       in_takes numbers KeyRange 0 127 l5.0.bytes k4.0.0 l5.2,
-      frequency_takes fronts l6.0.bytes f.0.0 l6.2,
+      frequency_takes prefixes l6.0.bytes f.0.0 l6.2,
       in_takes numbers DegreeRange 0 16383 l7.0.bytes o.0.0 l7.2,
-      entries_take fronts numbers a.0.0 (entry_lines o.0.1) s.0 s.1,
+      entries_take prefixes numbers a.0.0 (entry_lines o.0.1) s.0 s.1,
     ))
 
-map_again : Fronts → Numbers → (missing : ℕ) (lines : List Numbered) (m : KeyMap) → IsMap lines m → map_at missing lines ≡ Ok m
+map_again : ArePrefixes → AreNumbers → (missing : ℕ) (lines : List Numbered) (m : KeyMap) → IsMap lines m → map_at missing lines ≡ Ok m
 unfolding map_at keys_at
-map_again fronts numbers missing (a ∷ b ∷ c ∷ d ∷ e ∷ f ∷ o ∷ lines) m (n, size, first, last, middle, reference, frequency, octave, entries) =
+map_again prefixes numbers missing (a ∷ b ∷ c ∷ d ∷ e ∷ f ∷ o ∷ lines) m (n, size, first, last, middle, reference, frequency, octave, entries) =
     rw (
       field_again missing (number_in SizeRange 0 4096) a (b ∷ c ∷ d ∷ e ∷ f ∷ o ∷ lines) n (in_again numbers SizeRange 0 4096 a.bytes n size),
       field_again missing (number_in KeyRange 0 127) b (c ∷ d ∷ e ∷ f ∷ o ∷ lines) m.first (in_again numbers KeyRange 0 127 b.bytes m.first first),
       field_again missing (number_in KeyRange m.first 127) c (d ∷ e ∷ f ∷ o ∷ lines) m.last (in_again numbers KeyRange m.first 127 c.bytes m.last last),
       field_again missing (number_in KeyRange 0 127) d (e ∷ f ∷ o ∷ lines) m.middle (in_again numbers KeyRange 0 127 d.bytes m.middle middle),
       field_again missing (number_in KeyRange 0 127) e (f ∷ o ∷ lines) m.reference (in_again numbers KeyRange 0 127 e.bytes m.reference reference),
-      field_again missing frequency_of f (o ∷ lines) m.nanohertz (frequency_again fronts f.bytes m.nanohertz frequency),
+      field_again missing frequency_of f (o ∷ lines) m.nanohertz (frequency_again prefixes f.bytes m.nanohertz frequency),
       field_again missing (number_in DegreeRange 0 16383) o lines m.octave (in_again numbers DegreeRange 0 16383 o.bytes m.octave octave),
-      entries_again fronts numbers n (entry_lines lines) m.entries entries,
+      entries_again prefixes numbers n (entry_lines lines) m.entries entries,
     ) refl
-map_again fronts numbers missing [] m h = absurd h
-map_again fronts numbers missing (a ∷ []) m h = absurd h
-map_again fronts numbers missing (a ∷ b ∷ []) m h = absurd h
-map_again fronts numbers missing (a ∷ b ∷ c ∷ []) m h = absurd h
-map_again fronts numbers missing (a ∷ b ∷ c ∷ d ∷ []) m h = absurd h
-map_again fronts numbers missing (a ∷ b ∷ c ∷ d ∷ e ∷ []) m h = absurd h
-map_again fronts numbers missing (a ∷ b ∷ c ∷ d ∷ e ∷ f ∷ []) m h = absurd h
+map_again prefixes numbers missing [] m h = absurd h
+map_again prefixes numbers missing (a ∷ []) m h = absurd h
+map_again prefixes numbers missing (a ∷ b ∷ []) m h = absurd h
+map_again prefixes numbers missing (a ∷ b ∷ c ∷ []) m h = absurd h
+map_again prefixes numbers missing (a ∷ b ∷ c ∷ d ∷ []) m h = absurd h
+map_again prefixes numbers missing (a ∷ b ∷ c ∷ d ∷ e ∷ []) m h = absurd h
+map_again prefixes numbers missing (a ∷ b ∷ c ∷ d ∷ e ∷ f ∷ []) m h = absurd h
 
-fault_takes : Fronts → Numbers → (missing : ℕ) (lines : List Numbered) (f : Fault) → map_at missing lines ≡ Err f → On (IsFault missing lines) f
+fault_takes : ArePrefixes → AreNumbers → (missing : ℕ) (lines : List Numbered) (f : Fault KbmKind) → map_at missing lines ≡ Err f → On (IsFault missing lines) f
 unfolding map_at keys_at
-fault_takes fronts numbers missing lines f e =
+fault_takes prefixes numbers missing lines f e =
     stopped missing (number_in SizeRange 0 4096) _ lines f (IsIn 0 4096) (NotIn SizeRange 0 4096) _ (in_takes numbers SizeRange 0 4096) (out_takes numbers SizeRange 0 4096) (λ size r1 e1.
     stopped missing (number_in KeyRange 0 127) _ r1 f (IsIn 0 127) (NotIn KeyRange 0 127) _ (in_takes numbers KeyRange 0 127) (out_takes numbers KeyRange 0 127) (λ first r2 e2.
     stopped missing (number_in KeyRange first 127) _ r2 f (IsIn first 127) (NotIn KeyRange first 127) _ (in_takes numbers KeyRange first 127) (out_takes numbers KeyRange first 127) (λ last r3 e3.
     stopped missing (number_in KeyRange 0 127) _ r3 f (IsIn 0 127) (NotIn KeyRange 0 127) _ (in_takes numbers KeyRange 0 127) (out_takes numbers KeyRange 0 127) (λ middle r4 e4.
     stopped missing (number_in KeyRange 0 127) _ r4 f (IsIn 0 127) (NotIn KeyRange 0 127) _ (in_takes numbers KeyRange 0 127) (out_takes numbers KeyRange 0 127) (λ reference r5 e5.
-    stopped missing frequency_of _ r5 f IsFrequency NoFrequency _ (frequency_takes fronts) (no_frequency_takes fronts) (λ frequency r6 e6.
+    stopped missing frequency_of _ r5 f IsFrequency NoFrequency _ (frequency_takes prefixes) (no_frequency_takes prefixes) (λ frequency r6 e6.
     stopped missing (number_in DegreeRange 0 16383) _ r6 f (IsIn 0 16383) (NotIn DegreeRange 0 16383) _ (in_takes numbers DegreeRange 0 16383) (out_takes numbers DegreeRange 0 16383) (λ octave r7 e7.
     at_entries size (entry_lines r7) f _ e7) e6) e5)
     (sym (binds (field_at missing (number_in KeyRange 0 127) r4) _ _) ∙ e4))
@@ -247,14 +239,14 @@ fault_takes fronts numbers missing lines f e =
     (sym (binds (field_at missing (number_in KeyRange first 127) r2) _ _) ∙ e2))
     (sym (binds (field_at missing (number_in KeyRange 0 127) r1) _ _) ∙ e1)) e
   where
-    at_entries : (n : ℕ) (ls : List Numbered) (g : Fault) (make : List (Option ℕ) → KeyMap) → (entries_at n ls >>= λ entries. Ok (make entries)) ≡ Err g → On (EntriesFault n ls) g
+    at_entries : (n : ℕ) (ls : List Numbered) (g : Fault KbmKind) (make : List (Option ℕ) → KeyMap) → (entries_at n ls >>= λ entries. Ok (make entries)) ≡ Err g → On (EntriesFault n ls) g
     at_entries n ls g make h = elim (bind_err (entries_at n ls) (λ entries. Ok (make entries)) g h) [
-      | inl b ↦ entries_fault fronts numbers n ls g b
+      | inl b ↦ entries_fault prefixes numbers n ls g b
       | inr b ↦ absurd (ok_not_err (make b.0) g b.2)
     ]
 
 -- what comes behind each field
-abbrev after_octave : ℕ → Keys → ℕ → ℕ × List Numbered → Result KeyMap Fault
+abbrev after_octave : ℕ → Keys → ℕ → ℕ × List Numbered → Result KeyMap (Fault KbmKind)
 after_octave size keys frequency octave = entries_at size (entry_lines octave.1) >>= λ entries. Ok (record {
   first = keys.first;
   last = keys.last;
@@ -265,76 +257,76 @@ after_octave size keys frequency octave = entries_at size (entry_lines octave.1)
   entries = entries;
 })
 
-abbrev after_frequency : ℕ → ℕ → Keys → ℕ × List Numbered → Result KeyMap Fault
+abbrev after_frequency : ℕ → ℕ → Keys → ℕ × List Numbered → Result KeyMap (Fault KbmKind)
 after_frequency missing size keys frequency = field_at missing (number_in DegreeRange 0 16383) frequency.1 >>= after_octave size keys frequency.0
 
-abbrev after_keys : ℕ → ℕ → Keys × List Numbered → Result KeyMap Fault
+abbrev after_keys : ℕ → ℕ → Keys × List Numbered → Result KeyMap (Fault KbmKind)
 after_keys missing size keys = field_at missing frequency_of keys.1 >>= after_frequency missing size keys.0
 
-abbrev after_size : ℕ → ℕ × List Numbered → Result KeyMap Fault
+abbrev after_size : ℕ → ℕ × List Numbered → Result KeyMap (Fault KbmKind)
 after_size missing size = keys_at missing size.1 >>= after_keys missing size.0
 
-abbrev after_reference : ℕ → ℕ → ℕ → ℕ × List Numbered → Result (Keys × List Numbered) Fault
+abbrev after_reference : ℕ → ℕ → ℕ → ℕ × List Numbered → Result (Keys × List Numbered) (Fault KbmKind)
 after_reference first last middle reference = Ok (record { first = first; last = last; middle = middle; reference = reference.0 }, reference.1)
 
-abbrev after_middle : ℕ → ℕ → ℕ → ℕ × List Numbered → Result (Keys × List Numbered) Fault
+abbrev after_middle : ℕ → ℕ → ℕ → ℕ × List Numbered → Result (Keys × List Numbered) (Fault KbmKind)
 after_middle missing first last middle = field_at missing (number_in KeyRange 0 127) middle.1 >>= after_reference first last middle.0
 
-abbrev after_last : ℕ → ℕ → ℕ × List Numbered → Result (Keys × List Numbered) Fault
+abbrev after_last : ℕ → ℕ → ℕ × List Numbered → Result (Keys × List Numbered) (Fault KbmKind)
 after_last missing first last = field_at missing (number_in KeyRange 0 127) last.1 >>= after_middle missing first last.0
 
-abbrev after_first : ℕ → ℕ × List Numbered → Result (Keys × List Numbered) Fault
+abbrev after_first : ℕ → ℕ × List Numbered → Result (Keys × List Numbered) (Fault KbmKind)
 after_first missing first = field_at missing (number_in KeyRange first.0 127) first.1 >>= after_last missing first.0
 
-octave_again : Fronts → Numbers → (missing size : ℕ) (keys : Keys) (frequency : ℕ) (r : List Numbered) (line : ℕ) (kind : KbmKind) → OctaveFault missing size r line kind → after_frequency missing size keys (frequency, r) ≡ fault line kind
-octave_again fronts numbers missing size keys frequency r line kind s =
+octave_again : ArePrefixes → AreNumbers → (missing size : ℕ) (keys : Keys) (frequency : ℕ) (r : List Numbered) (line : ℕ) (kind : KbmKind) → OctaveFault missing size r line kind → after_frequency missing size keys (frequency, r) ≡ fault line kind
+octave_again prefixes numbers missing size keys frequency r line kind s =
     stopped_again {A = KeyMap} missing (number_in DegreeRange 0 16383) (after_octave size keys frequency) r line kind (IsIn 0 16383) (NotIn DegreeRange 0 16383) (λ octave lines. EntriesFault size (entry_lines lines))
-    (in_again numbers DegreeRange 0 16383) (out_again numbers DegreeRange 0 16383) (λ octave r1 s1. rw (entries_fault_again fronts numbers size (entry_lines r1) line kind s1) refl) s
+    (in_again numbers DegreeRange 0 16383) (out_again numbers DegreeRange 0 16383) (λ octave r1 s1. rw (entries_fault_again prefixes numbers size (entry_lines r1) line kind s1) refl) s
 
-frequency_fault_again : Fronts → Numbers → (missing size : ℕ) (keys : Keys) (r : List Numbered) (line : ℕ) (kind : KbmKind) → FrequencyFault missing size r line kind → after_keys missing size (keys, r) ≡ fault line kind
-frequency_fault_again fronts numbers missing size keys r line kind s =
+frequency_fault_again : ArePrefixes → AreNumbers → (missing size : ℕ) (keys : Keys) (r : List Numbered) (line : ℕ) (kind : KbmKind) → FrequencyFault missing size r line kind → after_keys missing size (keys, r) ≡ fault line kind
+frequency_fault_again prefixes numbers missing size keys r line kind s =
     stopped_again {A = KeyMap} missing frequency_of (after_frequency missing size keys) r line kind IsFrequency NoFrequency (λ frequency. OctaveFault missing size)
-    (frequency_again fronts) (no_frequency_again fronts) (λ frequency r1 s1. octave_again fronts numbers missing size keys frequency r1 line kind s1) s
+    (frequency_again prefixes) (no_frequency_again prefixes) (λ frequency r1 s1. octave_again prefixes numbers missing size keys frequency r1 line kind s1) s
 
-reference_again : Fronts → Numbers → (missing size first last middle : ℕ) (r : List Numbered) (line : ℕ) (kind : KbmKind) → ReferenceFault missing size r line kind → (after_middle missing first last (middle, r) >>= after_keys missing size) ≡ fault line kind
-reference_again fronts numbers missing size first last middle r line kind s =
+reference_again : ArePrefixes → AreNumbers → (missing size first last middle : ℕ) (r : List Numbered) (line : ℕ) (kind : KbmKind) → ReferenceFault missing size r line kind → (after_middle missing first last (middle, r) >>= after_keys missing size) ≡ fault line kind
+reference_again prefixes numbers missing size first last middle r line kind s =
     binds (field_at missing (number_in KeyRange 0 127) r) (after_reference first last middle) (after_keys missing size)
     ∙ stopped_again {A = KeyMap} missing (number_in KeyRange 0 127) (λ x. after_reference first last middle x >>= after_keys missing size) r line kind (IsIn 0 127) (NotIn KeyRange 0 127) (λ reference. FrequencyFault missing size)
-    (in_again numbers KeyRange 0 127) (out_again numbers KeyRange 0 127) (λ reference r1 s1. frequency_fault_again fronts numbers missing size (record { first = first; last = last; middle = middle; reference = reference }) r1 line kind s1) s
+    (in_again numbers KeyRange 0 127) (out_again numbers KeyRange 0 127) (λ reference r1 s1. frequency_fault_again prefixes numbers missing size (record { first = first; last = last; middle = middle; reference = reference }) r1 line kind s1) s
 
-middle_again : Fronts → Numbers → (missing size first last : ℕ) (r : List Numbered) (line : ℕ) (kind : KbmKind) → MiddleFault missing size r line kind → (after_last missing first (last, r) >>= after_keys missing size) ≡ fault line kind
-middle_again fronts numbers missing size first last r line kind s =
+middle_again : ArePrefixes → AreNumbers → (missing size first last : ℕ) (r : List Numbered) (line : ℕ) (kind : KbmKind) → MiddleFault missing size r line kind → (after_last missing first (last, r) >>= after_keys missing size) ≡ fault line kind
+middle_again prefixes numbers missing size first last r line kind s =
     binds (field_at missing (number_in KeyRange 0 127) r) (after_middle missing first last) (after_keys missing size)
     ∙ stopped_again {A = KeyMap} missing (number_in KeyRange 0 127) (λ x. after_middle missing first last x >>= after_keys missing size) r line kind (IsIn 0 127) (NotIn KeyRange 0 127) (λ middle. ReferenceFault missing size)
-    (in_again numbers KeyRange 0 127) (out_again numbers KeyRange 0 127) (λ middle r1 s1. reference_again fronts numbers missing size first last middle r1 line kind s1) s
+    (in_again numbers KeyRange 0 127) (out_again numbers KeyRange 0 127) (λ middle r1 s1. reference_again prefixes numbers missing size first last middle r1 line kind s1) s
 
-last_again : Fronts → Numbers → (missing size first : ℕ) (r : List Numbered) (line : ℕ) (kind : KbmKind) → LastFault missing size first r line kind → (after_first missing (first, r) >>= after_keys missing size) ≡ fault line kind
-last_again fronts numbers missing size first r line kind s =
+last_again : ArePrefixes → AreNumbers → (missing size first : ℕ) (r : List Numbered) (line : ℕ) (kind : KbmKind) → LastFault missing size first r line kind → (after_first missing (first, r) >>= after_keys missing size) ≡ fault line kind
+last_again prefixes numbers missing size first r line kind s =
     binds (field_at missing (number_in KeyRange first 127) r) (after_last missing first) (after_keys missing size)
     ∙ stopped_again {A = KeyMap} missing (number_in KeyRange first 127) (λ x. after_last missing first x >>= after_keys missing size) r line kind (IsIn first 127) (NotIn KeyRange first 127) (λ last. MiddleFault missing size)
-    (in_again numbers KeyRange first 127) (out_again numbers KeyRange first 127) (λ last r1 s1. middle_again fronts numbers missing size first last r1 line kind s1) s
+    (in_again numbers KeyRange first 127) (out_again numbers KeyRange first 127) (λ last r1 s1. middle_again prefixes numbers missing size first last r1 line kind s1) s
 
-first_again : Fronts → Numbers → (missing size : ℕ) (r : List Numbered) (line : ℕ) (kind : KbmKind) → FirstFault missing size r line kind → after_size missing (size, r) ≡ fault line kind
+first_again : ArePrefixes → AreNumbers → (missing size : ℕ) (r : List Numbered) (line : ℕ) (kind : KbmKind) → FirstFault missing size r line kind → after_size missing (size, r) ≡ fault line kind
 unfolding keys_at
-first_again fronts numbers missing size r line kind s =
+first_again prefixes numbers missing size r line kind s =
     binds (field_at missing (number_in KeyRange 0 127) r) (after_first missing) (after_keys missing size)
     ∙ stopped_again {A = KeyMap} missing (number_in KeyRange 0 127) (λ x. after_first missing x >>= after_keys missing size) r line kind (IsIn 0 127) (NotIn KeyRange 0 127) (λ first. LastFault missing size first)
-    (in_again numbers KeyRange 0 127) (out_again numbers KeyRange 0 127) (λ first r1 s1. last_again fronts numbers missing size first r1 line kind s1) s
+    (in_again numbers KeyRange 0 127) (out_again numbers KeyRange 0 127) (λ first r1 s1. last_again prefixes numbers missing size first r1 line kind s1) s
 
-fault_again : Fronts → Numbers → (missing : ℕ) (lines : List Numbered) (line : ℕ) (kind : KbmKind) → IsFault missing lines line kind → map_at missing lines ≡ fault line kind
+fault_again : ArePrefixes → AreNumbers → (missing : ℕ) (lines : List Numbered) (line : ℕ) (kind : KbmKind) → IsFault missing lines line kind → map_at missing lines ≡ fault line kind
 unfolding map_at
-fault_again fronts numbers missing lines line kind s =
+fault_again prefixes numbers missing lines line kind s =
     stopped_again {A = KeyMap} missing (number_in SizeRange 0 4096) (after_size missing) lines line kind (IsIn 0 4096) (NotIn SizeRange 0 4096) (λ size. FirstFault missing size)
-    (in_again numbers SizeRange 0 4096) (out_again numbers SizeRange 0 4096) (λ size r1 s1. first_again fronts numbers missing size r1 line kind s1) s
+    (in_again numbers SizeRange 0 4096) (out_again numbers SizeRange 0 4096) (λ size r1 s1. first_again prefixes numbers missing size r1 line kind s1) s
 
-pub read_is_map : Fronts → Numbers → (lines : List (List ℕ)) (m : KeyMap) → map_of lines ≡ Ok m → MapText lines m
-read_is_map fronts numbers lines m e = map_takes fronts numbers (length lines + 1) (content lines) m e
+pub read_is_map : ArePrefixes → AreNumbers → (lines : List (List ℕ)) (m : KeyMap) → map_of lines ≡ Ok m → MapText lines m
+read_is_map prefixes numbers lines m e = map_takes prefixes numbers (length lines + 1) (content lines) m e
 
-pub map_is_read : Fronts → Numbers → (lines : List (List ℕ)) (m : KeyMap) → MapText lines m → map_of lines ≡ Ok m
-map_is_read fronts numbers lines m s = map_again fronts numbers (length lines + 1) (content lines) m s
+pub map_is_read : ArePrefixes → AreNumbers → (lines : List (List ℕ)) (m : KeyMap) → MapText lines m → map_of lines ≡ Ok m
+map_is_read prefixes numbers lines m s = map_again prefixes numbers (length lines + 1) (content lines) m s
 
-pub read_is_fault : Fronts → Numbers → (lines : List (List ℕ)) (line : ℕ) (kind : KbmKind) → map_of lines ≡ fault line kind → MapFault lines line kind
-read_is_fault fronts numbers lines line kind e = fault_takes fronts numbers (length lines + 1) (content lines) (record { line = line; kind = kind }) e
+pub read_is_fault : ArePrefixes → AreNumbers → (lines : List (List ℕ)) (line : ℕ) (kind : KbmKind) → map_of lines ≡ fault line kind → MapFault lines line kind
+read_is_fault prefixes numbers lines line kind e = fault_takes prefixes numbers (length lines + 1) (content lines) (record { line = line; kind = kind }) e
 
-pub fault_is_read : Fronts → Numbers → (lines : List (List ℕ)) (line : ℕ) (kind : KbmKind) → MapFault lines line kind → map_of lines ≡ fault line kind
-fault_is_read fronts numbers lines line kind s = fault_again fronts numbers (length lines + 1) (content lines) line kind s
+pub fault_is_read : ArePrefixes → AreNumbers → (lines : List (List ℕ)) (line : ℕ) (kind : KbmKind) → MapFault lines line kind → map_of lines ≡ fault line kind
+fault_is_read prefixes numbers lines line kind s = fault_again prefixes numbers (length lines + 1) (content lines) line kind s

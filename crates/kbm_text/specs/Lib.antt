@@ -8,3 +8,4 @@ pub mod Views
 pub mod KeyFields
 pub mod Spelling
 pub mod Worked
+pub mod Cuts

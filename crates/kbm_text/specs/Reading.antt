@@ -2,31 +2,14 @@
 use Rattle.std.specs.Prelude.{ℕ, zero, suc, ◌+◌, ◌==◌, List, [], ◌∷◌, length, Option, None, Result, Ok, Err, if◌then◌else◌}
 use Rattle.scala_lines.specs.Characters.{after_blanks}
 use Rattle.scala_lines.specs.Lines.{Numbered, content}
+use Rattle.scala_lines.specs.Reading.{Fault, fault, ◌>>=◌, on_line}
 use Rattle.kbm_text.specs.declared.fault.KbmKind.{KbmKind}
 use Rattle.kbm_text.specs.declared.fault.KbmKind.TheVariants.{MissingField, SizeRange, KeyRange, DegreeRange}
 use Rattle.kbm_text.specs.Field.{number_in, frequency_of, entry_of}
 use Rattle.kbm_text.specs.Map.{KeyMap}
 
--- a line and the kind of its fault
-pub record Fault : Type 0 where
-  pub line : ℕ
-  pub kind : KbmKind
-
-infixl 10 ◌>>=◌
-abbrev pub ◌>>=◌ : {A B : Type 0} → Result A Fault → (A → Result B Fault) → Result B Fault
-(Ok x) >>= f = f x
-(Err e) >>= f = Err e
-
-abbrev pub fault : {A : Type 0} → ℕ → KbmKind → Result A Fault
-fault line kind = Err (record { line = line; kind = kind })
-
--- a fault on this line, where there is one
-abbrev pub on_line : {A : Type 0} → ℕ → Result A KbmKind → Result A Fault
-on_line line (Ok x) = Ok x
-on_line line (Err kind) = fault line kind
-
 -- a field on the next line; missing is the number of a line behind the last
-unfoldable pub field_at : ℕ → (List ℕ → Result ℕ KbmKind) → List Numbered → Result (ℕ × List Numbered) Fault
+unfoldable pub field_at : ℕ → (List ℕ → Result ℕ KbmKind) → List Numbered → Result (ℕ × List Numbered) (Fault KbmKind)
 field_at missing read [] = fault missing MissingField
 field_at missing read (line ∷ lines) = do
   n ← on_line line.number (read line.bytes)
@@ -39,7 +22,7 @@ pub record Keys : Type 0 where
   pub middle : ℕ
   pub reference : ℕ
 
-unfoldable pub keys_at : ℕ → List Numbered → Result (Keys × List Numbered) Fault
+unfoldable pub keys_at : ℕ → List Numbered → Result (Keys × List Numbered) (Fault KbmKind)
 keys_at missing lines = do
   first ← field_at missing (number_in KeyRange 0 127) lines
   last ← field_at missing (number_in KeyRange first.0 127) first.1
@@ -57,7 +40,7 @@ entry_lines [] = []
 entry_lines (line ∷ lines) = unless_blank line (entry_lines lines)
 
 -- so many entries; those that are left out at the end are unmapped
-unfoldable pub entries_at : ℕ → List Numbered → Result (List (Option ℕ)) Fault
+unfoldable pub entries_at : ℕ → List Numbered → Result (List (Option ℕ)) (Fault KbmKind)
 entries_at zero lines = Ok []
 entries_at (suc n) [] = do
   entries ← entries_at n []
@@ -68,7 +51,7 @@ entries_at (suc n) (line ∷ lines) = do
   Ok (entry ∷ entries)
 
 -- the lines that aren't comments: the size, the keys, the frequency, the octave's degree, the entries
-unfoldable pub map_at : ℕ → List Numbered → Result KeyMap Fault
+unfoldable pub map_at : ℕ → List Numbered → Result KeyMap (Fault KbmKind)
 map_at missing lines = do
   size ← field_at missing (number_in SizeRange 0 4096) lines
   keys ← keys_at missing size.1
@@ -86,5 +69,5 @@ map_at missing lines = do
   })
 
 -- the mapping of a text, or its first fault
-abbrev pub map_of : List (List ℕ) → Result KeyMap Fault
+abbrev pub map_of : List (List ℕ) → Result KeyMap (Fault KbmKind)
 map_of lines = map_at (length lines + 1) (content lines)

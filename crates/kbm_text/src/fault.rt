@@ -1,6 +1,8 @@
 ghost use Rattle.std.specs.Prelude.{◌≡◌};
 ghost use Rattle.kbm_text.specs.Kinds.{kind_number};
+ghost use Rattle.kbm_text.specs.declared.fault.KbmFault.TheVariants as faults;
 
+use std::alloc::AllocFailed;
 use thiserror::Error;
 
 /// What is wrong with a line of a mapping text.
@@ -14,7 +16,8 @@ pub enum KbmKind {
     SizeRange,
     /// A key is above 127, or the last key is below the first.
     KeyRange,
-    /// The frequency isn't a number with at most one period, or isn't above 0 and at most 1,000,000 Hz.
+    /// The frequency isn't a number with at most one period, or isn't above 0 and at most
+    /// 1,000,000 Hz.
     BadFrequency,
     /// An entry is neither a number nor x.
     BadEntry,
@@ -39,11 +42,20 @@ impl KbmKind {
     }
 }
 
-/// Why a mapping text could not be read: its first fault, with its line, counted from 1, or want of memory.
+/// Why a mapping text could not be read: its first fault, with its line, counted from 1, or want of
+/// memory.
 #[derive(Debug, Drop, Error)]
 pub enum KbmFault {
     #[error("the mapping text has a fault")]
     At { line: u32, kind: KbmKind },
     #[error("out of memory")]
     Memory,
+}
+
+impl<T: Drop> From<AllocFailed<T>> for KbmFault {
+    ghost from_gives = { λ _ e. e ≡ faults.Memory };
+
+    fn from(_failed: AllocFailed<T>) -> KbmFault {
+        KbmFault::Memory
+    }
 }

@@ -8,7 +8,7 @@ mod mapping;
 mod reading;
 
 pub use fault::{KbmFault, KbmKind};
-pub use laws::{one_answer, worked_texts};
+pub use laws::{cut_texts, one_answer, worked_texts};
 pub use mapping::Mapping;
 pub use reading::read_kbm;
 

@@ -8,7 +8,7 @@ use Rattle.kbm_text.specs.Map.{KeyMap}
 use Rattle.retune_model.specs.Scale.{IsOctaves, repeated, size_of, floor_div, floor_rem, from_middle, pitch_of_degree, terms_of_degree, ratios_of_degree, pitch_of_entry, terms_of_entry, ratios_of_entry, above_middle, terms_above_middle, ratios_above_middle, reference_pitch, is_mapped_range, scale_pitch, term_count, ratios_of_key}
 use Rattle.key_pitch.specs.declared.sum.Sum.{Sum}
 use Rattle.key_pitch.specs.Views.{bounds_of}
-use Rattle.key_pitch.specs.Sums.{Sums, SumsIf}
+use Rattle.key_pitch.specs.Sums.{IsEntrySum, Sums, SumsIf}
 use Rattle.key_pitch.proofs.Bounds.{all_first, all_second, retold}
 
 pub some_pitch : (t : ℕ) (r : List (ℕ × ℕ)) (o : Option Pitch) (s : Sum) → SumsIf t r o (Some s) → (p : Pitch) × (o ≡ Some p) × Sums p t r s
@@ -34,9 +34,6 @@ unmapped_sums scale m k d s none is h =
     rw e (subst (λ z. Sums (pitch_of_degree scale z) (terms_of_degree scale z) (ratios_of_degree scale z) s) is h)
 
 -- an entry of the map
-abbrev pub IsEntrySum : List Entry → KeyMap → ℤ → Option ℕ → Option Sum → Type 0
-IsEntrySum scale m j e s = SumsIf (terms_of_entry scale m j e) (ratios_of_entry scale m j e) (pitch_of_entry scale m j e) s
-
 nat_eq_some : (n : ℕ) → 1 ≤ n → nat_eq n 0 ≡ false
 nat_eq_some n h = grind arith
 

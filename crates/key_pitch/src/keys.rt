@@ -1,8 +1,10 @@
-ghost use Rattle.std.specs.Prelude.{length, pos, List, [], ◌∷◌, IfSome, IfOk, IfErr, ◌≡◌, ◌≤◌, ◌<◌, ◌^◌, ◌*◌, ℕ, Some};
-ghost use Rattle.retune_model.specs.Scale.{size_of, floor_div, floor_rem, step_at, pitch_of_step, ratios_at, ratio_of_step, pitch_of_degree, terms_of_degree, ratios_of_degree, pitch_of_entry, terms_of_entry, ratios_of_entry, above_middle, terms_above_middle, ratios_above_middle, scale_pitch, term_count, ratios_of_key};
+ghost use Rattle.std.specs.Prelude.{length, pos, List, [], ◌∷◌, IfSome, IfOk, IfErr, ℕ, Some};
+ghost use Rattle.std.specs.Prelude.{◌≡◌, ◌≤◌, ◌<◌, ◌^◌, ◌*◌};
+ghost use Rattle.retune_model.specs.Scale.{size_of, floor_div, floor_rem, term_count};
 ghost use Rattle.key_pitch.specs.declared.fault.TuneFault.TheVariants.{TooManyPeriods};
 ghost use Rattle.key_pitch.specs.Tables.{IsKeyBound};
-ghost use Rattle.key_pitch.specs.Sums.{Sums, SumsIf, IsSmall, IsSmallIf};
+ghost use Rattle.key_pitch.specs.Sums.{Sums, IsSmall};
+ghost use Rattle.key_pitch.specs.Sums.{IsStepSum, IsDegreeSum, IsEntrySum, IsAboveMiddle, IsKeySum};
 
 use crate::fault::TuneFault;
 use crate::sum::Sum;
@@ -32,7 +34,7 @@ fn divided(number: i32, size: usize) -> (i32, usize)
 // A step of the scale, which is none of its ratios at 0.
 fn step(scale: &Scale, place: usize) -> Sum
     requires { place ≤ length scale.now }
-    ensures sum { Sums (pitch_of_step (step_at scale.now place)) (ratios_at scale.now place) (ratio_of_step (step_at scale.now place)) result }
+    ensures sum { IsStepSum scale.now place result }
     ensures small { IsSmall (2 ^ 57) 1 result }
 {
     if place == 0 {
@@ -47,7 +49,7 @@ fn step(scale: &Scale, place: usize) -> Sum
 // A step of the scale, repeated by its period in both directions.
 fn degree(scale: &Scale, degree: i32) -> Sum
     requires near { size_of degree ≤ 16383 }
-    ensures sum { Sums (pitch_of_degree scale.now degree) (terms_of_degree scale.now degree) (ratios_of_degree scale.now degree) result }
+    ensures sum { IsDegreeSum scale.now degree result }
     ensures small { IsSmall (2 ^ 72) 16384 result }
 {
     let size = scale.entries.len();
@@ -59,7 +61,7 @@ fn degree(scale: &Scale, degree: i32) -> Sum
 fn mapped(scale: &Scale, mapping: &Mapping, turns: i32, entry: Option<u16>) -> Option<Sum>
     requires near { size_of turns ≤ 127 }
     requires low { IfSome entry (λ d. d ≤ 16383) }
-    ensures sum { SumsIf (terms_of_entry scale.now mapping.now turns entry) (ratios_of_entry scale.now mapping.now turns entry) (pitch_of_entry scale.now mapping.now turns entry) result }
+    ensures sum { IsEntrySum scale.now mapping.now turns entry result }
     ensures small { IfSome result (IsSmall (2 ^ 80) (2 ^ 22)) }
 {
     let Some(place) = entry else {
@@ -69,10 +71,10 @@ fn mapped(scale: &Scale, mapping: &Mapping, turns: i32, entry: Option<u16>) -> O
     Some(octaves.plus(degree(scale, place as i32)))
 }
 
-// The pitch of a key above the middle key.
+// The pitch of a key above the middle note.
 pub fn above_middle(scale: &Scale, mapping: &Mapping, key: u8) -> Option<Sum>
     requires { key ≤ 127 }
-    ensures sum { SumsIf (terms_above_middle scale.now mapping.now key) (ratios_above_middle scale.now mapping.now key) (above_middle scale.now mapping.now key) result }
+    ensures sum { IsAboveMiddle scale.now mapping.now key result }
     ensures small { IfSome result (IsSmall (2 ^ 80) (2 ^ 22)) }
 {
     let distance = key as i32 - mapping.middle as i32;
@@ -88,7 +90,8 @@ pub fn above_middle(scale: &Scale, mapping: &Mapping, key: u8) -> Option<Sum>
 fn reference(nanohertz: u64) -> Sum
     requires some { 1 ≤ nanohertz }
     requires high { nanohertz < 2 ^ 63 }
-    ensures sum { Sums (record { a = nanohertz; b = 440000000000; c = pos 220800000000000 }) 1 ((nanohertz, 440000000000) ∷ []) result }
+    ensures sum { Sums (record { a = nanohertz; b = 440000000000; c = pos 220800000000000 }) 1
+        ((nanohertz, 440000000000) ∷ []) result }
     ensures small { IsSmall (2 ^ 58) 1 result }
 {
     let above = Sum::ratio(nanohertz, 440_000_000_000);
@@ -101,12 +104,12 @@ fn reference(nanohertz: u64) -> Sum
     }
 }
 
-// The pitch of a key, above key 0, where the reference key is so far above the middle key.
+// The pitch of a key, above key 0, where the reference key is so far above the middle note.
 fn key_pitch(scale: &Scale, mapping: &Mapping, tuned: Sum, key: u8) -> Option<Sum>
     requires key { key ≤ 127 }
-    requires tuned { SumsIf (terms_above_middle scale.now mapping.now mapping.now.reference) (ratios_above_middle scale.now mapping.now mapping.now.reference) (above_middle scale.now mapping.now mapping.now.reference) (Some tuned) }
+    requires tuned { IsAboveMiddle scale.now mapping.now mapping.now.reference (Some tuned) }
     requires small { IsSmall (2 ^ 80) (2 ^ 22) tuned }
-    ensures sum { SumsIf (term_count scale.now mapping.now key) (ratios_of_key scale.now mapping.now key) (scale_pitch scale.now mapping.now key) result }
+    ensures sum { IsKeySum scale.now mapping.now key result }
     ensures small { IfSome result (IsSmall (2 ^ 90) (2 ^ 24)) }
 {
     if key < mapping.first || mapping.last < key {
@@ -126,10 +129,11 @@ pub fn bounds(
     key: u8,
 ) -> Result<Option<Bracket>, TuneFault>
     requires key { key ≤ 127 }
-    requires tuned { SumsIf (terms_above_middle scale.now mapping.now mapping.now.reference) (ratios_above_middle scale.now mapping.now mapping.now.reference) (above_middle scale.now mapping.now mapping.now.reference) (Some tuned) }
+    requires tuned { IsAboveMiddle scale.now mapping.now mapping.now.reference (Some tuned) }
     requires small { IsSmall (2 ^ 80) (2 ^ 22) tuned }
     ensures found { IfOk result (IsKeyBound scale.now mapping.now key) }
-    ensures many { IfErr result (λ fault. (fault ≡ TooManyPeriods key) × (1700 < term_count scale.now mapping.now key)) }
+    ensures many { IfErr result
+        (λ fault. (fault ≡ TooManyPeriods key) × (1700 < term_count scale.now mapping.now key)) }
 {
     let Some(sum) = key_pitch(scale, mapping, tuned, key) else {
         return Ok(None);

@@ -1,6 +1,7 @@
 //! Laws of tables by ticks.
 
-ghost use Rattle.std.specs.Prelude.{◌≡◌, ◌≢◌, ℕ, ◌<◌, ◌≤◌, ◌-◌, List, [], ◌∷◌, ◌++◌, length, slice_index, Some, None};
+ghost use Rattle.std.specs.Prelude.{◌≡◌, ◌≢◌, ℕ, ◌<◌, ◌≤◌, ◌-◌, List, [], ◌∷◌, ◌++◌};
+ghost use Rattle.std.specs.Prelude.{length, slice_index, Some, None};
 ghost use Rattle.std.specs.List.{AllByRecursion};
 ghost use Rattle.key_pitch.specs.declared.table.KeyTable.{KeyTable};
 ghost use Rattle.key_pitch.specs.InForce.{IsTimeline, ticks_of, in_force, IsLast};
@@ -14,14 +15,24 @@ ghost use Rattle.retune_model.specs.Table.{IsTable, AreFewTerms};
 /// tick is 0 have one in force at every tick; where they are the tables of some scales, they are a table of
 /// the scale in force at each tick. A list of one tick, 0, may get further ones, each above the last.
 pub fn in_force_laws()
-    ensures last { (tick : ℕ) (entries : List (ℕ × KeyTable)) (t : KeyTable) → in_force tick entries ≡ Some t → IsLast tick entries t }
-    ensures only { (tick : ℕ) (entries : List (ℕ × KeyTable)) (t : KeyTable) → IsLast tick entries t → in_force tick entries ≡ Some t }
-    ensures latest { (tick : ℕ) (entries : List (ℕ × KeyTable)) (t : KeyTable) → IsTimeline (ticks_of entries) → (l : IsLast tick entries t) → AllByRecursion (λ e. e.0 ≤ tick → e.0 ≤ l.from) entries }
-    ensures always { (tick : ℕ) (entries : List (ℕ × KeyTable)) → IsTimeline (ticks_of entries) → in_force tick entries ≢ None }
+    ensures last { (tick : ℕ) (entries : List (ℕ × KeyTable)) (t : KeyTable)
+        → in_force tick entries ≡ Some t → IsLast tick entries t }
+    ensures only { (tick : ℕ) (entries : List (ℕ × KeyTable)) (t : KeyTable)
+        → IsLast tick entries t → in_force tick entries ≡ Some t }
+    ensures latest { (tick : ℕ) (entries : List (ℕ × KeyTable)) (t : KeyTable)
+        → IsTimeline (ticks_of entries) → (l : IsLast tick entries t)
+        → AllByRecursion (λ e. e.0 ≤ tick → e.0 ≤ l.from) entries }
+    ensures always { (tick : ℕ) (entries : List (ℕ × KeyTable))
+        → IsTimeline (ticks_of entries) → in_force tick entries ≢ None }
     ensures one { IsTimeline (0 ∷ []) }
-    ensures further { (ticks : List ℕ) (from : ℕ) → IsTimeline ticks → slice_index ticks (length ticks - 1) < from → IsTimeline (ticks ++ from ∷ []) }
-    ensures table { (scales : List (ℕ × List Entry)) (m : KeyMap) (entries : List (ℕ × KeyTable)) → AreTablesOf scales m entries → IsTimeline (ticks_of entries) → IsTable (scales_in_force scales m) (by_entries entries) }
-    ensures few { (scales : List (ℕ × List Entry)) (m : KeyMap) (entries : List (ℕ × KeyTable)) → AreTablesOf scales m entries → IsTimeline (ticks_of entries) → AreFewTerms (scales_in_force scales m) }
+    ensures further { (ticks : List ℕ) (from : ℕ) → IsTimeline ticks
+        → slice_index ticks (length ticks - 1) < from → IsTimeline (ticks ++ from ∷ []) }
+    ensures table { (scales : List (ℕ × List Entry)) (m : KeyMap) (entries : List (ℕ × KeyTable))
+        → AreTablesOf scales m entries → IsTimeline (ticks_of entries)
+        → IsTable (scales_in_force scales m) (by_entries entries) }
+    ensures few { (scales : List (ℕ × List Entry)) (m : KeyMap) (entries : List (ℕ × KeyTable))
+        → AreTablesOf scales m entries → IsTimeline (ticks_of entries)
+        → AreFewTerms (scales_in_force scales m) }
 {}
 
 /// Three values, from ticks 0, 480 and 960 on; and lists that have nothing yet.

@@ -12,10 +12,11 @@ pub struct Sum {
 }
 
 impl Sum {
-    ghost use Rattle.std.specs.Prelude.{◌≡◌, ◌≤◌, ◌<◌, ◌≤ℤ◌, ◌+◌, ◌*◌, ◌^◌, ◌++◌, ℕ, ℤ, pos, neg_ℤ, List, [], ◌∷◌, nat_eq, if◌then◌else◌};
-    ghost use Rattle.mt_base.specs.Pitch.{Pitch, ratio, exactly, added, subtracted};
-    ghost use Rattle.retune_model.specs.Scale.{repeated, size_of};
-    ghost use Rattle.key_pitch.specs.Sums.{Sums, IsSmall};
+    ghost use Rattle.std.specs.Prelude.{◌≤◌, ◌<◌, ◌≤ℤ◌, ◌^◌, pos, neg_ℤ, [], ◌∷◌};
+    ghost use Rattle.mt_base.specs.Pitch.{ratio, exactly, added, subtracted};
+    ghost use Rattle.retune_model.specs.Scale.{size_of};
+    ghost use Rattle.key_pitch.specs.Sums.{Sums, IsSmall, JoinsSums, IsSmallAsBoth};
+    ghost use Rattle.key_pitch.specs.Sums.{RepeatsSum, IsSmallAsTimes};
 
     // A whole number of grains.
     pub fn grains(grains: i128) -> Sum
@@ -48,8 +49,8 @@ impl Sum {
     pub fn plus(self, other: Sum) -> Sum
         requires small { IsSmall (2 ^ 100) (2 ^ 30) self }
         requires other_small { IsSmall (2 ^ 100) (2 ^ 30) other }
-        ensures sum { (p q : Pitch) (m n : ℕ) (r t : List (ℕ × ℕ)) → Sums p m r self → Sums q n t other → Sums (added p q) (m + n) (r ++ t) result }
-        ensures small { (g h m n : ℕ) → IsSmall g m self → IsSmall h n other → IsSmall (g + h) (m + n) result }
+        ensures sum { JoinsSums added self other result }
+        ensures small { IsSmallAsBoth self other result }
     {
         laws::sums();
         Sum {
@@ -64,8 +65,8 @@ impl Sum {
     pub fn minus(self, other: Sum) -> Sum
         requires small { IsSmall (2 ^ 100) (2 ^ 30) self }
         requires other_small { IsSmall (2 ^ 100) (2 ^ 30) other }
-        ensures sum { (p q : Pitch) (m n : ℕ) (r t : List (ℕ × ℕ)) → Sums p m r self → Sums q n t other → Sums (subtracted p q) (m + n) (r ++ t) result }
-        ensures small { (g h m n : ℕ) → IsSmall g m self → IsSmall h n other → IsSmall (g + h) (m + n) result }
+        ensures sum { JoinsSums subtracted self other result }
+        ensures small { IsSmallAsBoth self other result }
     {
         laws::differences();
         Sum {
@@ -80,8 +81,8 @@ impl Sum {
     pub fn repeated(self, turns: i32) -> Sum
         requires small { IsSmall (2 ^ 80) (2 ^ 15) self }
         requires few { size_of turns ≤ 16384 }
-        ensures sum { (p : Pitch) (m : ℕ) (r : List (ℕ × ℕ)) → Sums p m r self → Sums (repeated turns p) (size_of turns * m) (if nat_eq (size_of turns) 0 then [] else r) result }
-        ensures small { (g m : ℕ) → IsSmall g m self → IsSmall (size_of turns * g) (size_of turns * m) result }
+        ensures sum { RepeatsSum turns self result }
+        ensures small { IsSmallAsTimes turns self result }
     {
         // Turns below 0 are a difference: so many multiples, taken from an exact 0.
         laws::multiples();

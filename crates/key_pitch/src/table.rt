@@ -16,19 +16,21 @@ pub struct KeyTable {
 }
 
 impl KeyTable {
-    ghost use Rattle.std.specs.Prelude.{◌≡◌, ◌≢◌, ◌≤◌, ◌≤ℤ◌, ◌-ℤ◌, pos, None, IfSome, IfOk, IfErr};
+    ghost use Rattle.std.specs.Prelude.{◌≡◌, ◌≢◌, ◌≤◌, ◌≤ℤ◌, ◌-ℤ◌, pos, None};
+    ghost use Rattle.std.specs.Prelude.{IfSome, IfOk, IfErr};
     ghost use Rattle.retune_model.specs.Scale.{above_middle};
     ghost use Rattle.retune_model.specs.Table.{IsTable, AreFewTerms, one_scale};
     ghost use Rattle.key_pitch.specs.Views.{bounds_if};
     ghost use Rattle.key_pitch.specs.Causes.{Refuses};
-    ghost use Rattle.key_pitch.specs.Aims.{table_of, tuning_aim, bend_aim};
+    ghost use Rattle.key_pitch.specs.Aims.{table_of, by_onset, tuning_aim, bend_aim};
 
     /// The table of a scale and a mapping. Refused where the mapping leaves out the reference key, and
     /// where a key is a sum of more than 1,700 ratios: the least such key is named.
     pub fn new(scale: &Scale, mapping: &Mapping) -> Result<KeyTable, TuneFault>
-        ensures table { IfOk result (λ t. IsTable (one_scale scale.now mapping.now) (λ key onset. table_of t key)) }
+        ensures table { IfOk result (λ t. IsTable (one_scale scale.now mapping.now) (by_onset t)) }
         ensures few { IfOk result (λ t. AreFewTerms (one_scale scale.now mapping.now)) }
-        ensures mapped { IfOk result (λ t. above_middle scale.now mapping.now mapping.now.reference ≢ None) }
+        ensures mapped { IfOk result
+            (λ t. above_middle scale.now mapping.now mapping.now.reference ≢ None) }
         ensures cause { IfErr result (Refuses scale.now mapping.now) }
     {
         let Some(tuned) = above_middle(scale, mapping, mapping.reference) else {

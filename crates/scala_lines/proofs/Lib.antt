@@ -1,4 +1,5 @@
-pub mod Fronts
+pub mod Prefixes
 pub mod Cuts
 pub mod Decimals
 pub mod Spelled
+mod FirstLines

@@ -1,4 +1,4 @@
--- Characters of the Scala file formats: blanks, digits, and what stands at the front of a line.
+-- Characters of the Scala file formats: blanks, digits, and what stands at the start of a line.
 use Rattle.std.specs.Prelude.{ℕ, ◌≡◌, ◌==◌, ◌&&◌, ◌||◌, nat_le, List, [], ◌∷◌, Bool, true, false, cond}
 
 -- a space or a tab
@@ -9,10 +9,10 @@ is_blank b = b == 32 || b == 9
 abbrev pub is_digit : ℕ → Bool
 is_digit b = nat_le 48 b && nat_le b 57
 
--- the bytes at the front that pass a test
-abbrev pub front : (ℕ → Bool) → List ℕ → List ℕ
-front p [] = []
-front p (b ∷ bs) = cond (p b) (b ∷ front p bs) []
+-- the bytes at the start that pass a test
+abbrev pub prefix : (ℕ → Bool) → List ℕ → List ℕ
+prefix p [] = []
+prefix p (b ∷ bs) = cond (p b) (b ∷ prefix p bs) []
 
 -- what stands behind them
 abbrev pub behind : (ℕ → Bool) → List ℕ → List ℕ
@@ -20,7 +20,7 @@ behind p [] = []
 behind p (b ∷ bs) = cond (p b) (behind p bs) (b ∷ bs)
 
 abbrev pub digits_of : List ℕ → List ℕ
-digits_of bytes = front is_digit bytes
+digits_of bytes = prefix is_digit bytes
 
 abbrev pub after_digits : List ℕ → List ℕ
 after_digits bytes = behind is_digit bytes

@@ -4,3 +4,6 @@ pub mod Lines
 pub mod Numbers
 pub mod Remaining
 pub mod Spelling
+pub mod Reading
+pub mod Steps
+pub mod Cuts

@@ -13,7 +13,7 @@ fn is_digit(byte: u8) -> bool
     b'0' <= byte && byte <= b'9'
 }
 
-/// The bytes behind the spaces and tabs at the front.
+/// The bytes behind the spaces and tabs at the start.
 pub fn after_blanks(bytes: &[u8]) -> &[u8]
     ensures { result.now ≡ after_blanks bytes.entry.now }
 {
@@ -27,7 +27,7 @@ pub fn after_blanks(bytes: &[u8]) -> &[u8]
     rest
 }
 
-/// The bytes behind the digits at the front.
+/// The bytes behind the digits at the start.
 fn after_digits(bytes: &[u8]) -> &[u8]
     ensures { result.now ≡ after_digits bytes.entry.now }
 {
@@ -41,8 +41,8 @@ fn after_digits(bytes: &[u8]) -> &[u8]
     rest
 }
 
-#[tactic(auto, using(crate::proofs::Fronts::take_front, crate::proofs::Fronts::front_are, crate::proofs::Fronts::behind_short))]
-/// The digits at the front, and the bytes behind them.
+#[tactic(auto, using(crate::proofs::Prefixes::take_prefix, crate::proofs::Prefixes::prefix_are, crate::proofs::Prefixes::behind_short))]
+/// The digits at the start, and the bytes behind them.
 pub fn split_digits(bytes: &[u8]) -> (&[u8], &[u8])
     ensures digits { result.0.now ≡ digits_of bytes.entry.now }
     ensures rest { result.1.now ≡ after_digits bytes.entry.now }

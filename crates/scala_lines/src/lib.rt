@@ -8,5 +8,5 @@ mod numbers;
 mod pieces;
 
 pub use characters::{after_blanks, split_digits};
-pub use lines::{Line, Lines};
+pub use lines::{Line, Lines, TEXT_LIMIT};
 pub use numbers::{billionths, value_within};

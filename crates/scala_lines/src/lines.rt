@@ -2,6 +2,9 @@ ghost use Rattle.std.specs.Prelude.{◌≡◌, ◌+◌, ◌<◌, ◌≤◌, ◌^
 
 use crate::pieces::{is_comment, split_line};
 
+/// The most bytes that a text may have (this project's own limit).
+pub const TEXT_LIMIT: u32 = 262_144;
+
 /// A line of a text, with its number, counted from 1.
 #[derive(Clone, Copy, Debug)]
 pub struct Line<'a> {

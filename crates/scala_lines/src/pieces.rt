@@ -37,7 +37,7 @@ fn from_end(text: &[u8]) -> &[u8]
     rest
 }
 
-#[tactic(auto, using(crate::proofs::Cuts::line_end, crate::proofs::Cuts::line_more, crate::proofs::Fronts::behind_short))]
+#[tactic(auto, using(crate::proofs::Cuts::line_end, crate::proofs::Cuts::line_more, crate::proofs::Prefixes::behind_short))]
 /// The first line, and the bytes behind its LF.
 pub fn split_line(text: &[u8]) -> (&[u8], &[u8])
     requires { 0 < length text.now }

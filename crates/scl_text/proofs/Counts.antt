@@ -8,7 +8,7 @@ use Rattle.scl_text.specs.declared.fault.SclKind.{SclKind}
 use Rattle.scl_text.specs.declared.fault.SclKind.TheVariants.{NoDescription, NoCount, BadCount, CountRange, BadPitch, NegativeRatio, ZeroRatio, BigNumber, MissingPitch}
 use Rattle.scl_text.specs.Reading.{count_of, count_digits, count_in_range}
 use Rattle.scl_text.specs.Spelling.{IsCount, CountFault}
-use Rattle.scl_text.proofs.Premises.{Numbers}
+use Rattle.scala_lines.specs.Laws.{AreNumbers}
 
 abbrev Read : Type 0
 Read = Result ℕ SclKind
@@ -38,12 +38,12 @@ long digits some = ne_eqb (length digits) 0 (λ e. omega (arith, some, e))
 is_number : (line digits : List ℕ) → HasDigits line digits → IsNumber digits
 is_number line digits (blanks, rest, b, n, s, e) = n
 
-pub count_again : Numbers → (line : List ℕ) (n : ℕ) → IsCount line n → count_of line ≡ Ok n
+pub count_again : AreNumbers → (line : List ℕ) (n : ℕ) → IsCount line n → count_of line ≡ Ok n
 unfolding count_of
 count_again numbers line n (digits, has, is, some, few) =
     ap count_digits (numbers.found line digits has) ∙ (rw (long digits (is_number line digits has).1, sym is) (in_range n some few))
 
-pub count_fault_again : Numbers → (line : List ℕ) (kind : SclKind) → CountFault line kind → count_of line ≡ Err kind
+pub count_fault_again : AreNumbers → (line : List ℕ) (kind : SclKind) → CountFault line kind → count_of line ≡ Err kind
 unfolding count_of
 count_fault_again numbers line BadCount h = ap count_digits (numbers.none line h)
 count_fault_again numbers line CountRange (digits, has, out) =
@@ -57,7 +57,7 @@ count_fault_again numbers line BigNumber h = absurd h
 count_fault_again numbers line MissingPitch h = absurd h
 
 -- each line has a count or a fault
-pub counted : Numbers → (line : List ℕ) → ((n : ℕ) × IsCount line n) ⊎ ((kind : SclKind) × CountFault line kind)
+pub counted : AreNumbers → (line : List ℕ) → ((n : ℕ) × IsCount line n) ⊎ ((kind : SclKind) × CountFault line kind)
 counted numbers line = elim (numbers.either line) [
   | inl d ↦ elim (ranged (value d.0)) [
     | inl r ↦ inl (value d.0, (d.0, d.1, refl, r.0, r.1))
@@ -66,13 +66,13 @@ counted numbers line = elim (numbers.either line) [
   | inr h ↦ inr (BadCount, h)
 ]
 
-pub count_takes : Numbers → (line : List ℕ) (n : ℕ) → count_of line ≡ Ok n → IsCount line n
+pub count_takes : AreNumbers → (line : List ℕ) (n : ℕ) → count_of line ≡ Ok n → IsCount line n
 count_takes numbers line n e = elim (counted numbers line) [
   | inl c ↦ subst (IsCount line) (ok_is c.0 n (sym (count_again numbers line c.0 c.1) ∙ e)) c.1
   | inr f ↦ absurd (let h = sym (count_fault_again numbers line f.0 f.1) ∙ e in let g : (let r : Read = Err f.0 in r) ≡ Ok n = h in cc)
 ]
 
-pub count_fault_takes : Numbers → (line : List ℕ) (kind : SclKind) → count_of line ≡ Err kind → CountFault line kind
+pub count_fault_takes : AreNumbers → (line : List ℕ) (kind : SclKind) → count_of line ≡ Err kind → CountFault line kind
 count_fault_takes numbers line kind e = elim (counted numbers line) [
   | inl c ↦ absurd (let h : (let r : Read = Ok c.0 in r) ≡ Err kind = sym (count_again numbers line c.0 c.1) ∙ e in cc)
   | inr f ↦ subst (CountFault line) (err_is f.0 kind (sym (count_fault_again numbers line f.0 f.1) ∙ e)) f.1

@@ -1,5 +1,3 @@
-pub mod Premises
-pub mod Results
 pub mod Written
 pub mod Entries
 pub mod Values
@@ -7,3 +5,4 @@ pub mod Counts
 pub mod Scales
 pub mod Answered
 pub mod NoForms
+mod CutScales

@@ -13,12 +13,12 @@ use Rattle.scl_text.specs.declared.fault.SclKind.TheVariants.{NoDescription, NoC
 use Rattle.scl_text.specs.Pitch.{Form, InCents, AsRatio, Alone, form_of, entry_of, entry_if, ratio_entry, pitch_of, signed, greatest_number, greatest_cents}
 use Rattle.scl_text.specs.Spelling.{Stands, IsValue, IsPitch, RatioFault, FormFault, PitchFault}
 use Rattle.scl_text.specs.Ranges.{IsRatio, IsCents, IsEntry}
-use Rattle.scl_text.proofs.Premises.{Fronts}
-use Rattle.scl_text.proofs.Results.{chosen}
+use Rattle.scala_lines.specs.Laws.{ArePrefixes}
+use Rattle.scala_lines.specs.Steps.{chosen}
 use Rattle.scl_text.proofs.Written.{form_takes, form_again, no_form}
 
-pub decimals_are : Fronts → (line : List ℕ) (negative : Bool) (whole decimals : List ℕ) → form_of line ≡ Some (InCents negative whole decimals) → Are is_digit decimals
-decimals_are fronts line negative whole decimals e = let s = form_takes fronts line (InCents negative whole decimals) e in s.4.1
+pub decimals_are : ArePrefixes → (line : List ℕ) (negative : Bool) (whole decimals : List ℕ) → form_of line ≡ Some (InCents negative whole decimals) → Are is_digit decimals
+decimals_are prefixes line negative whole decimals e = let s = form_takes prefixes line (InCents negative whole decimals) e in s.4.1
 
 abbrev Read : Type 0
 Read = Result Entry SclKind
@@ -161,27 +161,27 @@ found : (o : Option Form) → (o ≡ None) ⊎ ((form : Form) × (o ≡ Some for
 found None = inl refl
 found (Some form) = inr (form, refl)
 
-pub pitch_takes : Fronts → (line : List ℕ) (entry : Entry) → pitch_of line ≡ Ok entry → IsPitch line entry
-pitch_takes fronts line entry e = elim (found (form_of line)) [
+pub pitch_takes : ArePrefixes → (line : List ℕ) (entry : Entry) → pitch_of line ≡ Ok entry → IsPitch line entry
+pitch_takes prefixes line entry e = elim (found (form_of line)) [
   | inl n ↦ absurd (let h : (let r : Read = Err BadPitch in r) ≡ Ok entry = sym (ap entry_if n) ∙ e in cc)
-  | inr s ↦ (s.0, form_takes fronts line s.0 s.1, entry_takes s.0 entry (sym (ap entry_if s.1) ∙ e))
+  | inr s ↦ (s.0, form_takes prefixes line s.0 s.1, entry_takes s.0 entry (sym (ap entry_if s.1) ∙ e))
 ]
 
-pub pitch_again : Fronts → (line : List ℕ) (entry : Entry) → IsPitch line entry → pitch_of line ≡ Ok entry
-pitch_again fronts line entry (form, s, v) = ap entry_if (form_again fronts line form s) ∙ entry_again form entry v
+pub pitch_again : ArePrefixes → (line : List ℕ) (entry : Entry) → IsPitch line entry → pitch_of line ≡ Ok entry
+pitch_again prefixes line entry (form, s, v) = ap entry_if (form_again prefixes line form s) ∙ entry_again form entry v
 
-pub pitch_fault_takes : Fronts → (line : List ℕ) (kind : SclKind) → pitch_of line ≡ Err kind → PitchFault line kind
-pitch_fault_takes fronts line kind e = elim (found (form_of line)) [
-  | inl n ↦ inl (sym (err_is BadPitch kind (sym (ap entry_if n) ∙ e)), no_form fronts line n)
-  | inr s ↦ inr (s.0, form_takes fronts line s.0 s.1, fault_takes s.0 kind (sym (ap entry_if s.1) ∙ e))
+pub pitch_fault_takes : ArePrefixes → (line : List ℕ) (kind : SclKind) → pitch_of line ≡ Err kind → PitchFault line kind
+pitch_fault_takes prefixes line kind e = elim (found (form_of line)) [
+  | inl n ↦ inl (sym (err_is BadPitch kind (sym (ap entry_if n) ∙ e)), no_form prefixes line n)
+  | inr s ↦ inr (s.0, form_takes prefixes line s.0 s.1, fault_takes s.0 kind (sym (ap entry_if s.1) ∙ e))
 ]
 
-pub pitch_fault_again : Fronts → (line : List ℕ) (kind : SclKind) → PitchFault line kind → pitch_of line ≡ Err kind
-pitch_fault_again fronts line kind (inl (e, none)) = elim (found (form_of line)) [
+pub pitch_fault_again : ArePrefixes → (line : List ℕ) (kind : SclKind) → PitchFault line kind → pitch_of line ≡ Err kind
+pitch_fault_again prefixes line kind (inl (e, none)) = elim (found (form_of line)) [
   | inl n ↦ ap entry_if n ∙ (rw e refl)
-  | inr s ↦ absurd (none s.0 (form_takes fronts line s.0 s.1))
+  | inr s ↦ absurd (none s.0 (form_takes prefixes line s.0 s.1))
 ]
-pitch_fault_again fronts line kind (inr (form, s, f)) = ap entry_if (form_again fronts line form s) ∙ fault_again form kind f
+pitch_fault_again prefixes line kind (inr (form, s, f)) = ap entry_if (form_again prefixes line form s) ∙ fault_again form kind f
 
 -- ---- ranges
 

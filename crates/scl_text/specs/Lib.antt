@@ -7,3 +7,4 @@ pub mod Forms
 pub mod Spelling
 pub mod Worked
 pub mod BadPitch
+pub mod Cuts

@@ -41,7 +41,7 @@ abbrev pub signed_form : List ℕ → Option Form
 signed_form [] = None
 signed_form (b ∷ bs) = if b == 45 then unsigned_form true bs else unsigned_form false (b ∷ bs)
 
--- the longest form at the front of a line behind its blanks
+-- the longest form at the start of a line behind its blanks
 unfoldable pub form_of : List ℕ → Option Form
 form_of line = signed_form (after_blanks line)
 

@@ -3,28 +3,11 @@ use Rattle.std.specs.Prelude.{ℕ, zero, suc, ◌+◌, ◌==◌, ◌||◌, nat_l
 use Rattle.scala_lines.specs.Characters.{digits_of, after_blanks}
 use Rattle.scala_lines.specs.Numbers.{value}
 use Rattle.scala_lines.specs.Lines.{Numbered, content}
+use Rattle.scala_lines.specs.Reading.{Fault, fault, ◌>>=◌, on_line}
 use Rattle.scl_text.specs.declared.entry.Entry.{Entry}
 use Rattle.scl_text.specs.declared.fault.SclKind.{SclKind}
 use Rattle.scl_text.specs.declared.fault.SclKind.TheVariants.{NoDescription, NoCount, BadCount, CountRange, MissingPitch}
 use Rattle.scl_text.specs.Pitch.{pitch_of}
-
--- a line and the kind of its fault
-pub record Fault : Type 0 where
-  pub line : ℕ
-  pub kind : SclKind
-
-infixl 10 ◌>>=◌
-abbrev pub ◌>>=◌ : {A B : Type 0} → Result A Fault → (A → Result B Fault) → Result B Fault
-(Ok x) >>= f = f x
-(Err e) >>= f = Err e
-
-abbrev pub fault : {A : Type 0} → ℕ → SclKind → Result A Fault
-fault line kind = Err (record { line = line; kind = kind })
-
--- a fault on this line, where there is one
-abbrev pub on_line : {A : Type 0} → ℕ → Result A SclKind → Result A Fault
-on_line line (Ok x) = Ok x
-on_line line (Err kind) = fault line kind
 
 abbrev pub count_in_range : ℕ → Result ℕ SclKind
 count_in_range n = if n == 0 || nat_lt 4096 n then Err CountRange else Ok n
@@ -37,7 +20,7 @@ unfoldable pub count_of : List ℕ → Result ℕ SclKind
 count_of line = count_digits (digits_of (after_blanks line))
 
 -- so many pitch lines; missing is the number of a line behind the last
-unfoldable pub entries_at : ℕ → ℕ → List Numbered → Result (List Entry) Fault
+unfoldable pub entries_at : ℕ → ℕ → List Numbered → Result (List Entry) (Fault SclKind)
 entries_at missing zero lines = Ok []
 entries_at missing (suc n) [] = fault missing MissingPitch
 entries_at missing (suc n) (line ∷ lines) = do
@@ -46,7 +29,7 @@ entries_at missing (suc n) (line ∷ lines) = do
   Ok (entry ∷ entries)
 
 -- the lines that aren't comments: a description, a count, pitches
-unfoldable pub scale_at : ℕ → List Numbered → Result (List Entry) Fault
+unfoldable pub scale_at : ℕ → List Numbered → Result (List Entry) (Fault SclKind)
 scale_at missing [] = fault missing NoDescription
 scale_at missing (description ∷ []) = fault missing NoCount
 scale_at missing (description ∷ count ∷ lines) = do
@@ -54,5 +37,5 @@ scale_at missing (description ∷ count ∷ lines) = do
   entries_at missing n lines
 
 -- the entries of a scale text, or its first fault
-abbrev pub scale_of : List (List ℕ) → Result (List Entry) Fault
+abbrev pub scale_of : List (List ℕ) → Result (List Entry) (Fault SclKind)
 scale_of lines = scale_at (length lines + 1) (content lines)

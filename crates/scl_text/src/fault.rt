@@ -1,6 +1,8 @@
 ghost use Rattle.std.specs.Prelude.{◌≡◌};
 ghost use Rattle.scl_text.specs.Kinds.{kind_number};
+ghost use Rattle.scl_text.specs.declared.fault.SclFault.TheVariants as faults;
 
+use std::alloc::AllocFailed;
 use thiserror::Error;
 
 /// What is wrong with a line of a scale text.
@@ -45,11 +47,20 @@ impl SclKind {
     }
 }
 
-/// Why a scale text could not be read: its first fault, with its line, counted from 1, or want of memory.
+/// Why a scale text could not be read: its first fault, with its line, counted from 1, or want of
+/// memory.
 #[derive(Debug, Drop, Error)]
 pub enum SclFault {
     #[error("the scale text has a fault")]
     At { line: u32, kind: SclKind },
     #[error("out of memory")]
     Memory,
+}
+
+impl<T: Drop> From<AllocFailed<T>> for SclFault {
+    ghost from_gives = { λ _ e. e ≡ faults.Memory };
+
+    fn from(_failed: AllocFailed<T>) -> SclFault {
+        SclFault::Memory
+    }
 }

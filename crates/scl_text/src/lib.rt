@@ -10,7 +10,7 @@ mod scale;
 
 pub use entry::Entry;
 pub use fault::{SclFault, SclKind};
-pub use laws::{bad_pitch, one_answer, worked_texts};
+pub use laws::{bad_pitch, cut_texts, one_answer, worked_texts};
 pub use reading::read_scl;
 pub use scale::Scale;
 

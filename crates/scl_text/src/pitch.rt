@@ -1,13 +1,14 @@
 ghost use Rattle.std.specs.Prelude.{◌≡◌, ◌<◌, ◌^◌};
 ghost use Rattle.std.specs.Option.{option_map};
 ghost use Rattle.scala_lines.specs.Characters.{Are, is_digit, digits_of, after_digits};
-ghost use Rattle.scl_text.specs.Pitch.{cents_form, ratio_form, alone_form, unsigned_form, form_of, ratio_entry, cents_entry, entry_of, pitch_of};
+ghost use Rattle.scl_text.specs.Pitch.{cents_form, ratio_form, alone_form, unsigned_form, form_of};
+ghost use Rattle.scl_text.specs.Pitch.{ratio_entry, cents_entry, entry_of, pitch_of};
 ghost use Rattle.scala_lines.specs.Numbers.{value};
 ghost use Rattle.scl_text.specs.Forms.{view_form};
 
 use crate::entry::Entry;
 use crate::fault::SclKind;
-use scala_lines::laws::fronts;
+use scala_lines::laws::prefixes;
 use scala_lines::{after_blanks, billionths, split_digits, value_within};
 
 /// What is written on a pitch line, digits as they stand there.
@@ -29,7 +30,7 @@ pub enum Written<'a> {
     },
 }
 
-/// The form at the front of a text without blanks and sign.
+/// The form at the start of a text without blanks and sign.
 fn unsigned_form(negative: bool, text: &[u8]) -> Option<Written<'_>>
     ensures { option_map view_form result ≡ unsigned_form negative text.entry.now }
 {
@@ -69,7 +70,7 @@ fn unsigned_form(negative: bool, text: &[u8]) -> Option<Written<'_>>
     }
 }
 
-/// The form at the front of a line behind its blanks.
+/// The form at the start of a line behind its blanks.
 #[tactic(auto, unfolding(crate::specs::Pitch::form_of))]
 fn form(line: &[u8]) -> Option<Written<'_>>
     ensures { option_map view_form result ≡ form_of line.entry.now }
@@ -86,7 +87,7 @@ fn form(line: &[u8]) -> Option<Written<'_>>
 fn ratio(num: &[u8], den: &[u8]) -> Result<Entry, SclKind>
     ensures { result ≡ ratio_entry (value num.now) (value den.now) }
 {
-    let greatest = 9_223_372_036_854_775_807;
+    let greatest = i64::MAX as u64;
     let (Some(num), Some(den)) = (value_within(num, greatest), value_within(den, greatest)) else {
         return Err(SclKind::BigNumber);
     };
@@ -117,7 +118,7 @@ fn cents(negative: bool, whole: &[u8], decimals: &[u8]) -> Result<Entry, SclKind
 pub fn pitch(line: &[u8]) -> Result<Entry, SclKind>
     ensures { result ≡ pitch_of line.now }
 {
-    fronts();
+    prefixes();
     match form(line) {
         None => Err(SclKind::BadPitch),
         Some(

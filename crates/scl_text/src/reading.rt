@@ -2,7 +2,8 @@ ghost use Rattle.std.specs.Prelude.{◌≡◌, ◌≤◌, ◌<◌, ◌∷◌, []
 ghost use Rattle.scala_lines.specs.Lines.{lines_of};
 ghost use Rattle.scala_lines.specs.Remaining.{view, remaining, missing};
 ghost use Rattle.scl_text.specs.Reading.{count_of, entries_at, scale_at, scale_of};
-ghost use Rattle.scl_text.specs.Answers.{Gives, AnswersScale, AnswersFault, IsFaultOf};
+ghost use Rattle.scala_lines.specs.Reading.{Gives, Answers, AnswersFault, IsFaultOf};
+ghost use Rattle.scl_text.specs.Answers.{seen};
 ghost use Rattle.scl_text.specs.Spelling.{ScaleText, ScaleFault};
 ghost use Rattle.scl_text.specs.declared.entry.Entry.{Entry};
 ghost use Rattle.scl_text.specs.declared.fault.SclKind.{SclKind};
@@ -12,8 +13,8 @@ use crate::entry::Entry;
 use crate::fault::{SclFault, SclKind};
 use crate::pitch::pitch;
 use crate::scale::Scale;
-use scala_lines::laws::{decimals, fronts, numbers};
-use scala_lines::{Line, Lines, after_blanks, split_digits, value_within};
+use scala_lines::laws::{decimals, numbers, prefixes};
+use scala_lines::{Line, Lines, TEXT_LIMIT, after_blanks, split_digits, value_within};
 use std::alloc::Global;
 
 /// The count of a count line, or the kind of its fault.
@@ -38,15 +39,13 @@ fn next_line<'a>(lines: &mut Lines<'a>, kind: SclKind) -> Result<Line<'a>, SclFa
     ensures fault { IfErr result (λ e. e ≡ faults.At (missing lines.old) kind) }
     ensures missing { missing lines.new ≡ missing lines.old }
 {
-    match lines.next() {
-        Ok(line) => Ok(line),
-        Err(line) => Err(SclFault::At { line, kind }),
-    }
+    lines.next().map_err(|line| SclFault::At { line, kind })
 }
 
 /// The entries of so many pitch lines.
 fn entries(alloc: Global, lines: &mut Lines<'_>, count: u32) -> Result<Vec<Entry>, SclFault>
-    ensures { Gives (λ v. v.items) result (entries_at (missing lines.old) count (remaining lines.old)) }
+    ensures { Gives seen (λ v. v.items) result
+        (entries_at (missing lines.old) count (remaining lines.old)) }
 {
     let mut entries = Vec::new(alloc);
     'pitches: for _ in 0..count {
@@ -64,11 +63,7 @@ fn entries(alloc: Global, lines: &mut Lines<'_>, count: u32) -> Result<Vec<Entry
                         kind,
                     });
                 }
-                Ok(entry) => {
-                    if entries.push(entry).is_err() {
-                        return Err(SclFault::Memory);
-                    }
-                }
+                Ok(entry) => entries.push(entry)?,
             },
         }
     }
@@ -78,8 +73,8 @@ fn entries(alloc: Global, lines: &mut Lines<'_>, count: u32) -> Result<Vec<Entry
 /// The entries of a text.
 #[tactic(auto, unfolding(crate::specs::Reading::scale_at))]
 fn entries_of(alloc: Global, text: &[u8]) -> Result<Vec<Entry>, SclFault>
-    requires { length text.now ≤ 262144 }
-    ensures { Gives (λ v. v.items) result (scale_of (lines_of text.now)) }
+    requires { length text.now ≤ TEXT_LIMIT }
+    ensures { Gives seen (λ v. v.items) result (scale_of (lines_of text.now)) }
 {
     let mut lines = Lines::new(text);
     let _description = next_line(&mut lines, SclKind::NoDescription)?;
@@ -95,33 +90,34 @@ fn entries_of(alloc: Global, text: &[u8]) -> Result<Vec<Entry>, SclFault>
 
 /// The scale of a text.
 fn scale(alloc: Global, text: &[u8]) -> Result<Scale, SclFault>
-    requires { length text.now ≤ 262144 }
-    ensures { Gives (λ scale. scale) result (scale_of (lines_of text.now)) }
+    requires { length text.now ≤ TEXT_LIMIT }
+    ensures { Gives seen (λ scale. scale) result (scale_of (lines_of text.now)) }
 {
-    fronts();
+    prefixes();
     numbers();
     decimals();
     let entries = entries_of(alloc, text)?;
     Ok(Scale { entries })
 }
 
-/// Reads a scale text of at most 262,144 bytes: a description, a count line, and as many pitch lines as the count.
-/// A fault is the text's first one, with its line, counted from 1; where a line is missing, it is the number of
-/// lines plus 1.
+/// Reads a scale text of at most 262,144 bytes: a description, a count line, and as many pitch lines
+/// as the count. A fault is the text's first one, with its line, counted from 1; where a line is
+/// missing, it is the number of lines plus 1.
 pub fn read_scl(alloc: Global, text: &[u8]) -> Result<Scale, SclFault>
-    requires { length text.now ≤ 262144 }
+    requires { length text.now ≤ TEXT_LIMIT }
     // What is read is a scale text with these entries.
     ensures found { IfOk result (ScaleText (lines_of text.now)) }
     // A scale text is read, unless memory runs out.
-    ensures only { (entries : List Entry) → ScaleText (lines_of text.now) entries → AnswersScale result entries }
+    ensures only { (scale : List Entry) → ScaleText (lines_of text.now) scale → Answers seen result scale }
     // What is answered is the first fault.
-    ensures fault { IfErr result (λ e. IsFaultOf e (lines_of text.now)) }
+    ensures fault { IfErr result (λ e. IsFaultOf (ScaleFault (lines_of text.now)) (seen e)) }
     // A text with a fault is refused with it, unless memory runs out.
-    ensures only_fault { (line : ℕ) (kind : SclKind) → ScaleFault (lines_of text.now) line kind → AnswersFault result line kind }
+    ensures only_fault { (line : ℕ) (kind : SclKind)
+        → ScaleFault (lines_of text.now) line kind → AnswersFault seen result line kind }
     // Reading from left to right gives the same.
-    ensures exact { Gives (λ scale. scale) result (scale_of (lines_of text.now)) }
+    ensures exact { Gives seen (λ scale. scale) result (scale_of (lines_of text.now)) }
 {
-    fronts();
+    prefixes();
     numbers();
     scale(alloc, text)
 }

@@ -2,4 +2,4 @@ use Rattle.scala_lines.proofs.Decimals.{billionths_small}
 use Rattle.scala_lines.proofs.laws.decimals.Goals as goal
 
 pub returns : goal.returns
-returns c = record { low = billionths_small }
+returns c = billionths_small

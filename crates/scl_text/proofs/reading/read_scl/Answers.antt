@@ -1,19 +1,16 @@
-use Rattle.scl_text.proofs.Answered.{found, only, fault, only_fault}
-use Rattle.scl_text.proofs.Premises.{fronts_by, numbers_by}
+use Rattle.scala_lines.specs.Steps.{found, only, first_fault, only_fault}
+use Rattle.scl_text.specs.Answers.{seen}
+use Rattle.scl_text.proofs.Answered.{exact}
 use Rattle.scl_text.proofs.reading.read_scl.Goals as goal
 
 pub returns-clause-found : goal.returns-clause-found
-returns-clause-found c = found (fronts_by c.fronts.ensures.whole c.fronts.ensures.passes c.fronts.ensures.stops c.fronts.ensures.front c.fronts.ensures.behind)
-    (numbers_by c.numbers.ensures.found c.numbers.ensures.none c.numbers.ensures.either) c.scale.result _ c.scale.ensures
+returns-clause-found c = found seen (exact c.prefixes.ensures c.numbers.ensures _) c.scale.result c.scale.ensures
 
 pub returns-clause-only : goal.returns-clause-only
-returns-clause-only c = only (fronts_by c.fronts.ensures.whole c.fronts.ensures.passes c.fronts.ensures.stops c.fronts.ensures.front c.fronts.ensures.behind)
-    (numbers_by c.numbers.ensures.found c.numbers.ensures.none c.numbers.ensures.either) c.scale.result _ c.scale.ensures
+returns-clause-only c = only seen (exact c.prefixes.ensures c.numbers.ensures _) c.scale.result c.scale.ensures
 
 pub returns-clause-fault : goal.returns-clause-fault
-returns-clause-fault c = fault (fronts_by c.fronts.ensures.whole c.fronts.ensures.passes c.fronts.ensures.stops c.fronts.ensures.front c.fronts.ensures.behind)
-    (numbers_by c.numbers.ensures.found c.numbers.ensures.none c.numbers.ensures.either) c.scale.result _ c.scale.ensures
+returns-clause-fault c = first_fault seen (exact c.prefixes.ensures c.numbers.ensures _) c.scale.result c.scale.ensures
 
 pub returns-clause-only_fault : goal.returns-clause-only_fault
-returns-clause-only_fault c = only_fault (fronts_by c.fronts.ensures.whole c.fronts.ensures.passes c.fronts.ensures.stops c.fronts.ensures.front c.fronts.ensures.behind)
-    (numbers_by c.numbers.ensures.found c.numbers.ensures.none c.numbers.ensures.either) c.scale.result _ c.scale.ensures
+returns-clause-only_fault c = only_fault seen (exact c.prefixes.ensures c.numbers.ensures _) c.scale.result c.scale.ensures
