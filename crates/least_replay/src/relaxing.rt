@@ -57,10 +57,8 @@ fn nearer(cost: u16, gap: usize, u: u32, v: u32, slack: u32) -> u32
     ensures least { result + u ≤ step gap (told cost) + v }
     ensures which { (result ≡ slack) ⊎ (result + u ≡ step gap (told cost) + v) }
 {
-    if cost == u16::MAX {
-        return slack;
-    }
-    let near = cost as u32 + count_over(gap) + v - u;
+    let reach = (cost as u32 + count_over(gap) + v).saturating_sub(u);
+    let near = if cost == u16::MAX { slack } else { reach };
     if near < slack { near } else { slack }
 }
 
@@ -70,10 +68,10 @@ fn relax_step(
     gap: usize,
     u: u32,
     v: u32,
-    size: usize,
+    size: u32,
     j: usize,
     slack: &mut [u32],
-    from: &mut [usize],
+    from: &mut [u32],
 )
     requires few { gap ≤ 2000 }
     requires column { j < length slack.old }
@@ -89,11 +87,11 @@ fn relax_step(
     ensures slack_still { (i : ℕ) → i ≢ j → at slack.new i ≡ at slack.old i }
     ensures from_still { (i : ℕ) → i ≢ j → at from.new i ≡ at from.old i }
 {
-    let near = nearer(cost, gap, u, v, slack[j]);
-    if near < slack[j] {
-        slack[j] = near;
-        from[j] = size;
-    }
+    let old = slack[j];
+    let old_from = from[j];
+    let near = nearer(cost, gap, u, v, old);
+    from[j] = if near < old { size } else { old_from };
+    slack[j] = near;
 }
 
 /// Brings a column as near as it is to a row that costs `cost` there.
@@ -101,10 +99,10 @@ fn relax_one(
     cost: u32,
     u: u32,
     v: u32,
-    size: usize,
+    size: u32,
     j: usize,
     slack: &mut [u32],
-    from: &mut [usize],
+    from: &mut [u32],
 )
     requires column { j < length slack.old }
     requires from_columns { length from.old ≡ length slack.old }
@@ -130,9 +128,9 @@ fn relax_behind(
     r: u16,
     u: u32,
     v: &[u32],
-    size: usize,
+    size: u32,
     slack: &mut [u32],
-    from: &mut [usize],
+    from: &mut [u32],
 )
     requires run { r < (table_of costs.now).runs }
     requires columns { (table_of costs.now).runs ≤ length slack.old }
@@ -160,9 +158,9 @@ fn relax_from(
     first: usize,
     u: u32,
     v: &[u32],
-    size: usize,
+    size: u32,
     slack: &mut [u32],
-    from: &mut [usize],
+    from: &mut [u32],
 )
     requires end { first < (table_of costs.now).runs → (table_of costs.now).runs ≤ r }
     requires columns { first ≤ length slack.old }
@@ -199,9 +197,9 @@ fn relax_run(
     r: u16,
     u: u32,
     v: &[u32],
-    size: usize,
+    size: u32,
     slack: &mut [u32],
-    from: &mut [usize],
+    from: &mut [u32],
 )
     requires run { r < (table_of costs.now).runs }
     requires columns { (table_of costs.now).runs ≤ length slack.old }
@@ -227,9 +225,9 @@ pub fn relax(
     r: usize,
     u: u32,
     v: &[u32],
-    size: usize,
+    size: u32,
     slack: &mut [u32],
-    from: &mut [usize],
+    from: &mut [u32],
 )
     requires columns { (table_of costs.now).runs ≤ length slack.old }
     requires v_columns { length slack.old ≤ length v.now }

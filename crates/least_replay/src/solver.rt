@@ -1,6 +1,6 @@
 //! The solver: each run stands behind itself, and then one end after the other comes in.
 ghost use Rattle.std.specs.Prelude.{ℕ, ◌≡◌, ◌≤◌, ◌<◌, ◌+◌, ◌-◌, length, get_or, take, Some, None, IfOk};
-ghost use Rattle.least_replay.specs.Columns.{over, weight, all_columns, IsPaired, IsGrowing, IsWaiting, IsSettled};
+ghost use Rattle.least_replay.specs.Columns.{over, weight, all_columns, outside_count, IsPaired, IsGrowing, IsWaiting, IsSettled};
 ghost use Rattle.least_replay.specs.CostView.{table_of};
 ghost use Rattle.least_replay.specs.Tree.{at, IsMoved, IsFilled};
 
@@ -13,7 +13,7 @@ use std::alloc::Global;
 /// Moves the run that is nearest to the hole there, and returns the column that it leaves.
 fn move_on(
     rows: &[usize],
-    from: &[usize],
+    from: &[u32],
     row_of: &mut [Option<usize>],
     col_of: &mut [usize],
     hole: usize,
@@ -26,7 +26,7 @@ fn move_on(
     ensures value { result ≡ at col_of.old (at rows.now (at from.now hole)) }
     ensures moved { IsMoved (at rows.now (at from.now hole)) hole result row_of.old row_of.new col_of.old col_of.new }
 {
-    let r = rows[from[hole]];
+    let r = rows[from[hole] as usize];
     let j = col_of[r];
     col_of[r] = hole;
     row_of[hole] = Some(r);
@@ -50,8 +50,8 @@ fn turn(
     u: &[u32],
     v: &[u32],
     rows: &[usize],
-    place: &[usize],
-    from: &[usize],
+    place: &[u32],
+    from: &[u32],
     row_of: &mut [Option<usize>],
     col_of: &mut [usize],
     end: usize,
@@ -80,8 +80,8 @@ fn plant(
     row_of: &[Option<usize>],
     col_of: &[usize],
     rows: &[usize],
-    place: &[usize],
-    from: &[usize],
+    place: &[u32],
+    from: &[u32],
     slack: &mut [u32],
 )
     requires end { (table_of costs.now).runs ≤ b }
@@ -109,8 +109,8 @@ fn insert_with(
     row_of: &mut [Option<usize>],
     col_of: &mut [usize],
     rows: &mut Vec<usize>,
-    place: &mut [usize],
-    from: &mut [usize],
+    place: &mut [u32],
+    from: &mut [u32],
     slack: &mut [u32],
 ) -> Result<(), Memory>
     requires end { (table_of costs.now).runs ≤ b }
@@ -127,6 +127,7 @@ fn insert_with(
     requires root { at rows.old.items 0 ≡ b }
     requires outside { (j : ℕ) → at place.old j ≡ 0 }
     requires from_root { (j : ℕ) → at from.old j ≡ 0 }
+    requires room { outside_count place.old ≤ length slack.old }
     ensures { IfOk result (λ done. IsPaired (table_of costs.now) (b + 1) u.new v.new row_of.new col_of.new) }
 {
     plant(
@@ -178,8 +179,8 @@ fn insert(
 {
     let columns = b + 1;
     let mut rows = vec![in alloc; b]?;
-    let mut place = vec![in alloc; 0usize; columns]?;
-    let mut from = vec![in alloc; 0usize; columns]?;
+    let mut place = vec![in alloc; 0u32; columns]?;
+    let mut from = vec![in alloc; 0u32; columns]?;
     let mut slack = vec![in alloc; 0u32; columns]?;
     insert_with(
         costs, b, u, v, row_of, col_of, &mut rows, &mut place, &mut from, &mut slack,
