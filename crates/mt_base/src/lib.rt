@@ -11,5 +11,5 @@ mod pitch;
 pub use channel::Channel;
 pub use event::{Event, Msg, What};
 pub use memory::Memory;
-pub use pair::Pair;
+pub use pair::{Pair, Part};
 pub use pitch::{Bracket, Grain};

@@ -84,7 +84,7 @@ made_is_retuned spelt same_played (Ok made) scaling table input source targets f
       spelled = spelled;
       taken = all_taken;
       is_out = subst (λ (b : List ℕ). Spells b (dumped_file values source)) (sym text)
-          (spelt input source values spelled short (division_below input source spelled bytes) playable (dump_length values (values_count (tuning_at (table_fn table)) 0 128)));
+          (spelt input source values spelled short (division_below input source spelled bytes) playable all_taken (dump_length values (values_count (tuning_at (table_fn table)) 0 128)));
       same = same_played scaling (table_fn table) source bounds few (λ key onset. refl) playable all_taken (each_played table source targets found playable.valid each is played);
       exact_file = refl;
       exact_bytes = text;

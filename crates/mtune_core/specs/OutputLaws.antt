@@ -37,10 +37,10 @@ abbrev pub TracksAreShort : Type 0
 TracksAreShort = (bytes : List ℕ) (source : MidiFile) (s : Setup) → Spells bytes source → length bytes ≤ 4194304 → IsShortSetup s
     → All (λ (w : Written). length w.bytes < 2 ^ 32) (map written (distributed (length source.tracks) (written_from s false (merged source))))
 
--- the bytes of the output of a source of at most 4,194,304 bytes, where the targets of all keys make a dump of 407 bytes, spell the output
+-- the bytes of the output of a source of at most 4,194,304 bytes whose events are taken, where the targets of all keys make a dump of 407 bytes, spell the output
 abbrev pub OutputIsSpelt : Type 0
 OutputIsSpelt = (bytes : List ℕ) (source : MidiFile) (targets : List (Option ℕ)) → Spells bytes source → length bytes ≤ 4194304 → source.division < 2 ^ 16
-    → IsPlayable (length source.tracks) (merged source) → length (dump_bytes 0 targets) ≡ 407 → Spells (file_bytes (dumped_file targets source)) (dumped_file targets source)
+    → IsPlayable (length source.tracks) (merged source) → AllByRecursion (λ e. is_taken e.what ≡ true) (merged source) → length (dump_bytes 0 targets) ≡ 407 → Spells (file_bytes (dumped_file targets source)) (dumped_file targets source)
 
 -- for a source whose events are taken, and whose keys have targets in a table of the scale, the output plays the same
 abbrev pub OutputPlaysTheSame : Type 0

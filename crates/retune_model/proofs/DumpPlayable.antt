@@ -7,12 +7,14 @@ use Rattle.mt_base.specs.Valid.{IsValidEvent}
 use Rattle.mt_base.specs.declared.event.Msg.TheVariants.{Control}
 use Rattle.midi_model.specs.Sysex.{Doing, Plays, Resets, Tunes, Nothing, doing, is_reset}
 use Rattle.midi_model.specs.Merged.{IsPlayable}
-use Rattle.retune_model.specs.Blocks.{Group, all_events, events_of}
+use Rattle.retune_model.specs.Blocks.{Group, Block, all_events, events_of}
 use Rattle.retune_model.specs.Routes.{Setup, IsHarmless, sends, selects, setup_at, dump_before, dump_behind, dump_next, dump_block}
 use Rattle.retune_model.specs.Options.{Options}
 use Rattle.retune_model.specs.Faults.{is_part}
 use Rattle.retune_model.specs.Dump.{has_note_on, from_up, sounding_parts, dump_if, dump_setup, dumped}
+use Rattle.retune_model.specs.Ports.{port_of, all_zero, events_on}
 use Rattle.retune_model.proofs.Fronts.{all_append}
+use Rattle.retune_model.proofs.Ported.{kept_block, kept_next, as_translated}
 use Rattle.retune_model.proofs.Beside.{Beside, Stands, written_playable, filter_each}
 
 all_groups : (xs ys : List Group) → all_events (xs ++ ys) ≡ all_events xs ++ all_events ys
@@ -115,4 +117,8 @@ dump_harmless o bytes es h = record {
 
 pub dumped_playable : (tracks : ℕ) (o : Options) (bytes : List ℕ) (es : List MidiEvent) → length bytes < 2 ^ 28 → o.program ≤ 127 → IsPlayable tracks es → IsPlayable tracks (dumped o bytes es)
 dumped_playable tracks o bytes es long low h =
-    written_playable (dump_block (dump_setup o bytes es)) (λ b e. dump_next b (doing e.what)) (dump_stands (dump_setup o bytes es) (dump_writable o bytes es long low)) tracks false es h
+    let block : ℕ → Bool → MidiEvent → Block = λ z b e. dump_block (dump_setup o bytes (events_on z es)) b e in
+    let next : ℕ → Bool → MidiEvent → Bool = λ z b e. dump_next b (doing e.what) in
+    subst (IsPlayable tracks) (sym (as_translated block next all_zero 0 (λ z. false) es))
+    (written_playable (kept_block block) (kept_next next) (λ s e. let z : ℕ = port_of s.ports e in dump_stands (dump_setup o bytes (events_on z es)) (dump_writable o bytes (events_on z es) long low) (s.kept z) e)
+    tracks (record { ports = all_zero; kept = λ z. false }) es h)

@@ -16,18 +16,19 @@ use Rattle.retune_model.proofs.Steady.{music_all, receive_all-append}
 use Rattle.retune_model.proofs.Begun.{AllNotes}
 use Rattle.retune_model.specs.Table.{Scaling}
 use Rattle.retune_model.specs.Options.{Options, ByDump, bends_notes, keeps_drums, is_retuned}
-use Rattle.retune_model.specs.PlaysTheSame.{Pairwise, until, at_tick, retuned_notes, key_of, bend_target_if, output_key, IsSameNote, HasSameNotes, SoundsTheSame, HasSameSound, Beginning, last_note, beginning, beginnings_from, BeginsAlike, BeginsTheSame, PlaysTheSameMusic}
-use Rattle.retune_model.specs.Faults.{Targets, is_part, IsFaultless}
+use Rattle.retune_model.specs.PlaysTheSame.{Pairwise, until, at_tick, retuned_notes, key_of, bend_target_if, output_key, IsSameNote, HasSameNotes}
+use Rattle.retune_model.proofs.Receivers.{SoundsTheSame, HasSameSound, Beginning, last_note, beginning, beginnings_from, BeginsAlike, BeginsTheSame, PlaysTheSameMusic}
+use Rattle.retune_model.specs.Faults.{Targets, is_part}
 use Rattle.retune_model.specs.Blocks.{Group, Selects, Sends, events_of, all_events, AreSilent, written}
 use Rattle.retune_model.specs.Routes.{Setup, IsHarmless, tuned_by, tuning_run, dump_before, dump_behind, dump_next, dump_block, dump_output}
 use Rattle.retune_model.specs.Plain.{is_plain, ArePlain, IsTuned, has_begun}
-use Rattle.retune_model.specs.Dump.{dump_setup, dumped}
-use Rattle.retune_model.specs.Dumpable.{IsDumpable}
+use Rattle.retune_model.specs.Dump.{dump_setup}
+use Rattle.retune_model.proofs.OnePort.{IsDumpable, dumped}
 use Rattle.retune_model.proofs.Laws.{Laws}
 use Rattle.retune_model.proofs.SameMusic.{Ready, dump_keeps, unselected-quiet}
 use Rattle.retune_model.proofs.Tunings.{made, groups_received, received}
 use Rattle.retune_model.proofs.Tuned.{Tells, tells_next, tells_run}
-use Rattle.retune_model.proofs.Faultless.{all_plain, no_zones_step}
+use Rattle.retune_model.proofs.Faultless.{AreFineFrom, all_plain, no_zones_step}
 use Rattle.retune_model.proofs.Heard.{IsHeard, Serves, heard}
 use Rattle.retune_model.proofs.Fronts.{all_weaker, split, until_source, until_output, blocks, all_front, plain_front, faultless_front}
 use Rattle.retune_model.proofs.Served.{IsServed, IsKnown, all_show, all_known, setup_harmless, setup_parts, served_step, served_play, zones_play}
@@ -124,7 +125,7 @@ front : (laws : Laws) (scaling : Scaling) (o : Options) (table : Targets) (bytes
 front laws scaling o table bytes es xs ys d e =
     let s : Setup = dump_setup o bytes es in
     let harmless : IsHarmless s = setup_harmless o bytes es d.dump.no_reset in
-    let clean : IsFaultless o table quiet xs = faultless_front o table quiet xs ys (subst (λ z. IsFaultless o table quiet z) e d.faultless) in
+    let clean : AreFineFrom o table quiet xs = faultless_front o table quiet xs ys (subst (λ z. AreFineFrom o table quiet z) e d.faultless) in
     let plain : ArePlain (is_part o) quiet xs = plain_front (is_part o) quiet xs ys (subst (λ z. ArePlain (is_part o) quiet z) e (all_plain o table quiet es d.valid d.faultless)) in
     let all : AllByRecursion (IsKnown o es) xs = all_front (IsKnown o es) xs ys (subst (λ z. AllByRecursion (IsKnown o es) z) e (known o es d.valid)) in
     record {
@@ -296,7 +297,7 @@ block_beginnings part s b m u e rest st before behind =
 
 begin_run : (laws : Laws) (scaling : Scaling) (o : Options) (table : Targets) (bytes : List ℕ) (source : List MidiEvent) (b : Bool) (m : Music) (w u : Tuning) (es : List MidiEvent)
     → IsDumpable scaling o table bytes source → Steady m → Ready b m → Tells (dump_setup o bytes source) b u → m.zones ≡ no_zones → AllNotes (IsServed o table bytes source) m.notes
-    → IsFaultless o table m es → ArePlain (is_part o) m es → AllByRecursion (IsKnown o source) es
+    → AreFineFrom o table m es → ArePlain (is_part o) m es → AllByRecursion (IsKnown o source) es
     → Pairwise (BeginsAlike scaling o) (beginnings_from (is_retuned (keeps_drums o source)) (made m w) es) (beginnings_from (is_retuned (keeps_drums o source)) (made m u) (blocks (dump_setup o bytes source) b es))
 begin_run laws scaling o table bytes source b m w u [] d st ready tells z served f plain all = tt
 begin_run laws scaling o table bytes source b m w u (e ∷ es) d st ready tells z served f plain all =

@@ -1,7 +1,7 @@
 -- What a source without faults doesn't do: it sends no tuning message, sets no zone and selects no program on a retuned part.
-use Rattle.std.proofs.Common.{◌≡◌, ◌-◌, ℕ, length, take, drop, get_or, min, List, [], ◌∷◌, ◌++◌, Bool, true, false, cond, not, ◌&&◌, ◌||◌, nat_eq, Option, Some, None, refl, ap, sym, ◌∙◌, subst, arith}
+use Rattle.std.proofs.Common.{◌≡◌, ◌≤◌, ◌<◌, ◌-◌, ℕ, suc, length, take, drop, get_or, min, List, [], ◌∷◌, ◌++◌, Bool, true, false, cond, not, ◌&&◌, ◌||◌, nat_eq, Option, Some, None, refl, ap, sym, ◌∙◌, subst, arith}
 use Rattle.std.specs.List.{AllByRecursion}
-use Rattle.std.proofs.lemmas.Bool.{both_ways, and_parts, and_from, or_left, or_right, lt-ltb, eqb-true}
+use Rattle.std.proofs.lemmas.Bool.{both_ways, and_parts, and_from, or_left, or_right, le-leb, lt-ltb, eqb-true}
 use Rattle.mt_base.specs.declared.event.Msg.{Msg}
 use Rattle.mt_base.specs.declared.event.Msg.TheVariants.{NoteOn, NoteOff, KeyPressure, Control, Program, Pressure, Bend}
 use Rattle.mt_base.specs.Midi.{MidiWhat, Says, SysexOf, MetaOf, MidiEvent}
@@ -10,31 +10,58 @@ use Rattle.midi_model.specs.Sysex.{Wanted, Exactly, Any, is_wanted, begins, key_
 use Rattle.midi_model.specs.Params.{pair_eq}
 use Rattle.midi_model.specs.Channel.{Role, Stored, EntryHigh, EntryLow, NrpnLow, NrpnHigh, RpnLow, RpnHigh, AllSoundOff, ResetControllers, AllNotesOff, Ignored, Selection, role, Target, Nowhere, TuningProgram, ZoneSize, Value, target_in, target}
 use Rattle.midi_model.specs.Zones.{no_zones, zones_with}
-use Rattle.midi_model.specs.Music.{Music, channel_at, asked, asked_by, asks, advance, step}
+use Rattle.midi_model.specs.Music.{Music, quiet, play, channel_at, asked, asked_by, asks, advance, step}
 use Rattle.retune_model.specs.Options.{Options, is_retuned}
 use Rattle.retune_model.specs.Plain.{is_plain_entry, is_plain, ArePlain}
-use Rattle.retune_model.specs.Faults.{Targets, Kind, TuningInSource, is_part, first_that, is_entry, is_selected, is_tuning_entry, is_zone_entry, is_unmapped, is_out_of_device, message_tests, fault_in, fault_at, IsFaultless}
-
--- where none of the tests is the first to hold, none holds
-none_holds : (xs : List (Kind × Bool)) → first_that xs ≡ None → AllByRecursion (λ x. x.1 ≡ false) xs
-none_holds [] e = tt
-none_holds (x ∷ xs) e = pick x.1 refl e (none_holds xs)
-  where
-    pick : (b : Bool) → x.1 ≡ b → cond b (Some x.0) (first_that xs) ≡ None → (first_that xs ≡ None → AllByRecursion (λ (y : Kind × Bool). y.1 ≡ false) xs) → (x.1 ≡ false) × AllByRecursion (λ (y : Kind × Bool). y.1 ≡ false) xs
-    pick true h k rest = absurd cc
-    pick false h k rest = (h, rest k)
+use Rattle.retune_model.specs.Ports.{Numbered, PortEvents, all_zero, of_port, events_on, unnumbered, events_to, music_at, port_at, Ascend}
+use Rattle.retune_model.specs.Faults.{Targets, TuningInSource, is_part, is_entry, is_selected, is_tuning_entry, is_zone_entry, is_unmapped, is_out_of_device}
+use Rattle.retune_model.specs.Pairs.{Pair}
+use Rattle.retune_model.specs.Rests.{pairs_at}
+use Rattle.retune_model.specs.SourceFaults.{message_tests, kind_in, IsFine, IsFaultless}
+use Rattle.retune_model.proofs.Events.{came, none_yet}
+use Rattle.retune_model.proofs.Numbering.{ascend_from}
+use Rattle.retune_model.proofs.Faulty.{none_holds, fine_ports}
 
 -- what a message without a fault is not
-pub record IsFine (o : Options) (table : Targets) (m : Music) (t : ℕ) (msg : Msg) : Type 0 where
+pub record IsFineMessage (o : Options) (table : Targets) (m : Music) (t : ℕ) (msg : Msg) : Type 0 where
   pub mapped : is_unmapped o table t msg ≡ false
   pub in_device : is_out_of_device o table t msg ≡ false
   pub tuning : is_tuning_entry o m msg ≡ false
   pub zone : is_zone_entry o m msg ≡ false
 
-pub fine : (o : Options) (table : Targets) (m after : Music) (t : ℕ) (msg : Msg) → fault_in o table m after t (Says msg) ≡ None → IsFine o table m t msg
-fine o table m after t msg e =
-    let h = none_holds (message_tests o table t m after msg) e in
+-- and what an event without one is not
+abbrev pub IsFineEvent : Options → Targets → Music → ℕ → MidiWhat → Type 0
+IsFineEvent o table m t (Says msg) = IsFineMessage o table m t msg
+IsFineEvent o table m t (SysexOf lead bytes) = (nat_eq lead 0xf0 && is_tuning bytes) ≡ false
+IsFineEvent o table m t (MetaOf kind bytes) = Unit {0}
+
+-- of the events of a port, one after the other
+abbrev pub AreFineFrom : Options → Targets → Music → List MidiEvent → Type 0
+AreFineFrom o table m [] = Unit {0}
+AreFineFrom o table m (e ∷ es) = IsFineEvent o table m e.tick e.what × AreFineFrom o table (step m e) es
+
+fine_event : (z : ℕ) (o : Options) (table : Targets) (m after : Music) (t : ℕ) (ports : Bool) (pairs : List Pair) (w : MidiWhat) → kind_in z o table t m after ports pairs w ≡ None → IsFineEvent o table m t w
+fine_event z o table m after t ports pairs (Says msg) e =
+    let h = none_holds (message_tests z o table t m after ports pairs msg) e in
     record { mapped = h.0; in_device = h.1.0; tuning = h.1.1.1.1.1.1.0; zone = h.1.1.1.1.1.1.1.0 }
+fine_event z o table m after t ports pairs (SysexOf lead bytes) e = pick (nat_eq lead 0xf0 && is_tuning bytes) e
+  where
+    pick : (b : Bool) → cond b (Some TuningInSource) None ≡ None → b ≡ false
+    pick true h = absurd cc
+    pick false h = refl
+fine_event z o table m after t ports pairs (MetaOf kind bytes) e = tt
+
+-- positions to a list
+fine_from : (o : Options) (table : Targets) (music : ℕ → Music) (m : Music) (a : ℕ) (ns : List Numbered) → Ascend a ns → ((k : ℕ) → a ≤ k → music k ≡ play m (events_to k ns))
+    → AllByRecursion (λ n. (k : ℕ) → n.position ≡ suc k → IsFineEvent o table (music k) n.event.tick n.event.what) ns → AreFineFrom o table m (unnumbered ns)
+fine_from o table music m a [] up at h = tt
+fine_from o table music m a (n ∷ ns) up at h =
+    let k : ℕ = n.position - 1 in
+    let low : a < n.position = up.0 in
+    let here : music k ≡ m = at k (omega (arith, low)) ∙ ap (play m) (none_yet k k (n ∷ ns) (omega (arith, low), up.1) (omega arith)) in (
+      subst (λ x. IsFineEvent o table x n.event.tick n.event.what) here (h.0 k (omega (arith, low))),
+      fine_from o table music (step m n.event) n.position ns up.1 (λ j l. at j (omega (arith, low, l)) ∙ ap (play m) (came j n ns (le-leb n.position j l))) h.1,
+    )
 
 -- ---- the selected parameter, read off what data entry writes to
 program_true : (p : ℕ × ℕ) → target_in true p ≡ TuningProgram → pair_eq p (0, 3) ≡ true
@@ -129,7 +156,7 @@ no_tuning bs h =
     pick false false x y e f = refl
 
 -- ---- an event without a fault is plain
-plain_message : (o : Options) (table : Targets) (m : Music) (t : ℕ) (msg : Msg) → IsFine o table m t msg → IsValidMsg msg → is_plain (is_part o) m (Plays msg) ≡ true
+plain_message : (o : Options) (table : Targets) (m : Music) (t : ℕ) (msg : Msg) → IsFineMessage o table m t msg → IsValidMsg msg → is_plain (is_part o) m (Plays msg) ≡ true
 plain_message o table m t (Control c n v) f valid = entry_plain (is_part o c) (role n) (channel_at m c).selection f.tuning
 plain_message o table m t (NoteOn c k v) f valid = lt-ltb k 128 (omega (arith, valid.1))
 plain_message o table m t (NoteOff c k v) f valid = refl
@@ -138,7 +165,7 @@ plain_message o table m t (Program c p) f valid = refl
 plain_message o table m t (Pressure c v) f valid = refl
 plain_message o table m t (Bend c v) f valid = refl
 
-plain_sysex : (part : ℕ → Bool) (m : Music) (lead : ℕ) (bs : List ℕ) (b : Bool) → nat_eq lead 240 ≡ b → cond (b && is_tuning bs) (Some TuningInSource) None ≡ None
+plain_sysex : (part : ℕ → Bool) (m : Music) (lead : ℕ) (bs : List ℕ) (b : Bool) → nat_eq lead 240 ≡ b → (b && is_tuning bs) ≡ false
     → is_plain part m (cond b (cond (is_reset bs) Resets (tunes (tuning_of bs))) Nothing) ≡ true
 plain_sysex part m lead bs false e h = refl
 plain_sysex part m lead bs true e h = inner (is_tuning bs) refl h
@@ -148,18 +175,18 @@ plain_sysex part m lead bs true e h = inner (is_tuning bs) refl h
     last false None k = refl
     last false (Some y) k = absurd cc
 
-    inner : (u : Bool) → is_tuning bs ≡ u → cond u (Some TuningInSource) None ≡ None → is_plain part m (cond (is_reset bs) Resets (tunes (tuning_of bs))) ≡ true
+    inner : (u : Bool) → is_tuning bs ≡ u → u ≡ false → is_plain part m (cond (is_reset bs) Resets (tunes (tuning_of bs))) ≡ true
     inner true k l = absurd cc
     inner false k l = last (is_reset bs) (tuning_of bs) (no_tuning bs k)
 
-plain_what : (o : Options) (table : Targets) (m after : Music) (t : ℕ) (w : MidiWhat) → fault_in o table m after t w ≡ None → IsValidWhat w → is_plain (is_part o) m (doing w) ≡ true
-plain_what o table m after t (Says msg) e valid = plain_message o table m t msg (fine o table m after t msg e) valid
-plain_what o table m after t (SysexOf lead bs) e valid = plain_sysex (is_part o) m lead bs (nat_eq lead 240) refl e
-plain_what o table m after t (MetaOf kind bs) e valid = refl
+plain_what : (o : Options) (table : Targets) (m : Music) (t : ℕ) (w : MidiWhat) → IsFineEvent o table m t w → IsValidWhat w → is_plain (is_part o) m (doing w) ≡ true
+plain_what o table m t (Says msg) e valid = plain_message o table m t msg e valid
+plain_what o table m t (SysexOf lead bs) e valid = plain_sysex (is_part o) m lead bs (nat_eq lead 240) refl e
+plain_what o table m t (MetaOf kind bs) e valid = refl
 
-pub all_plain : (o : Options) (table : Targets) (m : Music) (es : List MidiEvent) → AllByRecursion IsValidEvent es → IsFaultless o table m es → ArePlain (is_part o) m es
+pub all_plain : (o : Options) (table : Targets) (m : Music) (es : List MidiEvent) → AllByRecursion IsValidEvent es → AreFineFrom o table m es → ArePlain (is_part o) m es
 all_plain o table m [] valid h = tt
-all_plain o table m (e ∷ es) valid h = (plain_what o table m (step m e) e.tick e.what h.0 valid.0.what, all_plain o table (step m e) es valid.1 h.1)
+all_plain o table m (e ∷ es) valid h = (plain_what o table m e.tick e.what h.0 valid.0.what, all_plain o table (step m e) es valid.1 h.1)
 
 -- ---- it sets no zone
 part_of_edge : (o : Options) (c : ℕ) → (nat_eq c 0 || nat_eq c 15) ≡ true → is_part o c ≡ true
@@ -223,8 +250,8 @@ sysex_no_play lead bs msg e = pick (nat_eq lead 240) (is_reset bs) (tuning_of bs
     pick true false None h = absurd cc
     pick true false (Some y) h = absurd cc
 
-zones_what : (o : Options) (table : Targets) (m after : Music) (t : ℕ) (w : MidiWhat) → fault_in o table m after t w ≡ None → m.zones ≡ no_zones → (advance t (doing w) m).zones ≡ no_zones
-zones_what o table m after t (Says msg) e z = zones_advance m t (Plays msg) (λ x h. subst (λ y. asks m y ≡ None) (same h) (message_asks_none o m msg (fine o table m after t msg e).zone)) z
+zones_what : (o : Options) (table : Targets) (m : Music) (t : ℕ) (w : MidiWhat) → IsFineEvent o table m t w → m.zones ≡ no_zones → (advance t (doing w) m).zones ≡ no_zones
+zones_what o table m t (Says msg) e z = zones_advance m t (Plays msg) (λ x h. subst (λ y. asks m y ≡ None) (same h) (message_asks_none o m msg e.zone)) z
   where
     message_of : Doing → Msg
     message_of (Plays x) = x
@@ -232,8 +259,19 @@ zones_what o table m after t (Says msg) e z = zones_advance m t (Plays msg) (λ 
 
     same : {x : Msg} → Plays msg ≡ Plays x → msg ≡ x
     same h = ap message_of h
-zones_what o table m after t (SysexOf lead bs) e z = zones_advance m t (doing (SysexOf lead bs)) (λ x h. absurd (sysex_no_play lead bs x h)) z
-zones_what o table m after t (MetaOf kind bs) e z = z
+zones_what o table m t (SysexOf lead bs) e z = zones_advance m t (doing (SysexOf lead bs)) (λ x h. absurd (sysex_no_play lead bs x h)) z
+zones_what o table m t (MetaOf kind bs) e z = z
 
-pub no_zones_step : (o : Options) (table : Targets) (m : Music) (e : MidiEvent) → fault_at o table m e ≡ None → m.zones ≡ no_zones → (step m e).zones ≡ no_zones
-no_zones_step o table m e h z = zones_what o table m (step m e) e.tick e.what h z
+pub no_zones_step : (o : Options) (table : Targets) (m : Music) (e : MidiEvent) → IsFineEvent o table m e.tick e.what → m.zones ≡ no_zones → (step m e).zones ≡ no_zones
+no_zones_step o table m e h z = zones_what o table m e.tick e.what h z
+
+-- ---- each port of a source without a fault
+fine_at : (o : Options) (table : Targets) (port : PortEvents) (ns : List Numbered) → AllByRecursion (λ n. (k : ℕ) → n.position ≡ suc k → IsFine o table port k n.event) ns
+    → AllByRecursion (λ n. (k : ℕ) → n.position ≡ suc k → IsFineEvent o table (music_at port.events k) n.event.tick n.event.what) ns
+fine_at o table port [] h = tt
+fine_at o table port (n ∷ ns) h =
+    ((λ k e. fine_event port.number o table (music_at port.events k) (music_at port.events (suc k)) n.event.tick false (pairs_at o (is_part o) table port (suc k)) n.event.what (h.0 k e)), fine_at o table port ns h.1)
+
+pub port_fine : (o : Options) (table : Targets) (es : List MidiEvent) (z : ℕ) → IsFaultless o table es → AreFineFrom o table quiet (events_on z es)
+port_fine o table es z fine =
+    fine_from o table (music_at (of_port z es)) quiet 0 (of_port z es) (ascend_from z all_zero 0 es) (λ k l. refl) (fine_at o table (port_at es z) (of_port z es) (fine_ports o table es z fine))

@@ -8,7 +8,8 @@ use Rattle.midi_model.specs.Sysex.{Doing, Plays, Resets, Tunes, Nothing, doing}
 use Rattle.midi_model.specs.Music.{Music, step}
 use Rattle.midi_model.specs.Order.{AreInOrder}
 use Rattle.retune_model.specs.PlaysTheSame.{until}
-use Rattle.retune_model.specs.Faults.{Targets, IsFaultless}
+use Rattle.retune_model.specs.Faults.{Targets}
+use Rattle.retune_model.proofs.Faultless.{AreFineFrom}
 use Rattle.retune_model.specs.Options.{Options}
 use Rattle.retune_model.specs.Blocks.{Group, all_events, written}
 use Rattle.retune_model.specs.Routes.{translated, Setup, sends, selects, setup_at, dump_before, dump_behind, dump_next, dump_block, dump_output}
@@ -126,6 +127,6 @@ pub plain_front : (part : ℕ → Bool) (m : Music) (xs ys : List MidiEvent) →
 plain_front part m [] ys h = tt
 plain_front part m (x ∷ xs) ys h = (h.0, plain_front part (step m x) xs ys h.1)
 
-pub faultless_front : (o : Options) (table : Targets) (m : Music) (xs ys : List MidiEvent) → IsFaultless o table m (xs ++ ys) → IsFaultless o table m xs
+pub faultless_front : (o : Options) (table : Targets) (m : Music) (xs ys : List MidiEvent) → AreFineFrom o table m (xs ++ ys) → AreFineFrom o table m xs
 faultless_front o table m [] ys h = tt
 faultless_front o table m (x ∷ xs) ys h = (h.0, faultless_front o table (step m x) xs ys h.1)

@@ -8,6 +8,7 @@ use Rattle.midi_model.specs.Examples.{dump}
 use Rattle.retune_model.specs.Scale.{scale_pitch, term_count, is_mapped_range}
 use Rattle.retune_model.specs.Table.{terms_at, ratios_at_key, AreBounds, Bound, IsTable}
 use Rattle.retune_model.specs.Options.{ByDump}
+use Rattle.retune_model.specs.FaultLaws.{NoFirstNoFault}
 use Rattle.retune_model.specs.Dumpable.{IsDumpable}
 use Rattle.retune_model.specs.Examples.{no_keys, even, equal_table, exact_bounds, with_route, reset_between}
 
@@ -37,8 +38,8 @@ even_table least most = record {
       (subst (λ n. AreBounds (exactly (pos (3200000000000 * key))) n (ratios_at_key even key onset) (exact_bounds (3200000000000 * key))) (sym (even_terms key h)) (even_bounds least most key (ratios_at_key even key onset)));
 }
 
-pub dumpable : LeastOfExact → MostOfExact → IsDumpable even (with_route ByDump 12) equal_table dump reset_between
-dumpable least most = record {
+pub dumpable : NoFirstNoFault → LeastOfExact → MostOfExact → IsDumpable even (with_route ByDump 12) equal_table dump reset_between
+dumpable none least most = record {
   route = refl;
   valid = (
     record { tick = omega arith; what = (omega arith, omega arith, omega arith) },
@@ -51,7 +52,7 @@ dumpable least most = record {
     ),
   );
   in_order = (omega arith, (omega arith, (omega arith, (omega arith, tt))));
-  faultless = (refl, (refl, (refl, (refl, tt))));
+  faultless = none (with_route ByDump 12) equal_table reset_between refl;
   bounds = even_table least most;
   few_terms = λ key onset h. (let e : term_count [] no_keys key ≡ 0 = even_terms key h in omega (arith, e));
   one_table = λ key onset. refl;

@@ -1,5 +1,5 @@
 -- On live each retuned note that sounds was told, and is played within the bound of its source pitch.
-use Rattle.std.proofs.Common.{◌≡◌, ◌≤◌, ◌<◌, ◌+◌, ◌*◌, ℕ, zero, suc, List, [], ◌∷◌, Bool, true, false, not, ◌&&◌, nat_eq, Option, Some, None, refl, ap, sym, ◌∙◌, subst, arith, ℤ, pos, ◌+ℤ◌, map}
+use Rattle.std.proofs.Common.{◌≡◌, ◌≤◌, ◌<◌, ◌+◌, ◌*◌, ℕ, zero, suc, List, [], ◌∷◌, Bool, true, false, not, ◌&&◌, nat_eq, Option, Some, refl, ap, sym, ◌∙◌, subst, arith, ℤ, pos, ◌+ℤ◌, map}
 use Rattle.std.specs.Option.{unwrap_or, is_some}
 use Rattle.std.specs.List.{AllByRecursion}
 use Rattle.std.proofs.lemmas.Int.{ints}
@@ -22,12 +22,12 @@ use Rattle.retune_model.specs.Table.{Scaling, terms_at, ratios_at_key, Bounds, I
 use Rattle.retune_model.specs.Options.{Options, Route, ByLive, has_drums, keeps_drums, is_retuned, half_step, bound}
 use Rattle.retune_model.specs.Source.{moved, heard_if, source_pitch}
 use Rattle.retune_model.specs.PlaysTheSame.{IsWithin}
-use Rattle.retune_model.specs.Faults.{Targets, is_part, has_target, misses_target, fault_in, fault_at}
+use Rattle.retune_model.specs.Faults.{Targets, is_part, has_target, misses_target}
 use Rattle.retune_model.specs.Routes.{Live, Told, keys_told, live_next}
 use Rattle.retune_model.specs.Plain.{IsTold}
 use Rattle.retune_model.specs.Dump.{has_note_on, tuning_if, told_value, live_setup}
 use Rattle.retune_model.proofs.Laws.{PitchLaws}
-use Rattle.retune_model.proofs.Faultless.{IsFine, fine as fine_message}
+use Rattle.retune_model.proofs.Faultless.{IsFineMessage, IsFineEvent}
 use Rattle.retune_model.proofs.Heard.{played_alone, has_pitch}
 use Rattle.retune_model.proofs.Rounded.{heard_within}
 use Rattle.retune_model.proofs.Served.{Shows, IsKnown, found, unless, still_part, of_passed}
@@ -47,7 +47,7 @@ abbrev pub IsTellableIn : Options → Targets → (ℕ → List ℕ) → List Mi
 IsTellableIn o table change source c k t = is_retuned (keeps_drums o source) c ≡ true → IsTellable table (live_setup o change source) c k t
 
 tellable_note_on : (o : Options) (table : Targets) (change : ℕ → List ℕ) (source : List MidiEvent) (m : Music) (c k v t : ℕ) → o.route ≡ ByLive → ((key onset : ℕ) → table key onset ≡ table key 0)
-    → IsFine o table m t (NoteOn c k (suc v)) → c ≤ 15 → k ≤ 127 → Shows o source (Says (NoteOn c k (suc v))) → IsTellableIn o table change source c k t
+    → IsFineMessage o table m t (NoteOn c k (suc v)) → c ≤ 15 → k ≤ 127 → Shows o source (Says (NoteOn c k (suc v))) → IsTellableIn o table change source c k t
 tellable_note_on o table change source m c k v t route one f channel key shows retuned =
     let part : is_part o c ≡ true = still_part o.keep_drums (has_drums source) (nat_eq c 9) shows.drums retuned in
     let bounds = found (table k t) (unless (is_part o c) (is_some (table k t)) f.mapped part) in
@@ -66,7 +66,7 @@ tellable_note_on o table change source m c k v t route one f channel key shows r
     }
 
 begins_message : (o : Options) (table : Targets) (change : ℕ → List ℕ) (source : List MidiEvent) (m : Music) (t : ℕ) (msg : Msg) → o.route ≡ ByLive → ((key onset : ℕ) → table key onset ≡ table key 0)
-    → IsFine o table m t msg → IsValidWhat (Says msg) → Shows o source (Says msg) → Begins (IsTellableIn o table change source) t msg
+    → IsFineMessage o table m t msg → IsValidWhat (Says msg) → Shows o source (Says msg) → Begins (IsTellableIn o table change source) t msg
 begins_message o table change source m t (NoteOn c k (suc v)) route one f valid shows = tellable_note_on o table change source m c k v t route one f valid.0 valid.1 shows
 begins_message o table change source m t (NoteOn c k zero) route one f valid shows = tt
 begins_message o table change source m t (NoteOff c k v) route one f valid shows = tt
@@ -76,15 +76,15 @@ begins_message o table change source m t (Program c p) route one f valid shows =
 begins_message o table change source m t (Pressure c v) route one f valid shows = tt
 begins_message o table change source m t (Bend c v) route one f valid shows = tt
 
-begins_what : (o : Options) (table : Targets) (change : ℕ → List ℕ) (source : List MidiEvent) (m after : Music) (t : ℕ) (w : MidiWhat) → o.route ≡ ByLive → ((key onset : ℕ) → table key onset ≡ table key 0)
-    → fault_in o table m after t w ≡ None → IsValidWhat w → Shows o source w → BeginsIn (IsTellableIn o table change source) t w
-begins_what o table change source m after t (Says msg) route one f valid shows = begins_message o table change source m t msg route one (fine_message o table m after t msg f) valid shows
-begins_what o table change source m after t (SysexOf lead bs) route one f valid shows = tt
-begins_what o table change source m after t (MetaOf kind bs) route one f valid shows = tt
+begins_what : (o : Options) (table : Targets) (change : ℕ → List ℕ) (source : List MidiEvent) (m : Music) (t : ℕ) (w : MidiWhat) → o.route ≡ ByLive → ((key onset : ℕ) → table key onset ≡ table key 0)
+    → IsFineEvent o table m t w → IsValidWhat w → Shows o source w → BeginsIn (IsTellableIn o table change source) t w
+begins_what o table change source m t (Says msg) route one f valid shows = begins_message o table change source m t msg route one f valid shows
+begins_what o table change source m t (SysexOf lead bs) route one f valid shows = tt
+begins_what o table change source m t (MetaOf kind bs) route one f valid shows = tt
 
 pub tellable_step : NotesFade → (o : Options) (table : Targets) (change : ℕ → List ℕ) (source : List MidiEvent) (m : Music) (e : MidiEvent) → o.route ≡ ByLive → ((key onset : ℕ) → table key onset ≡ table key 0)
-    → fault_at o table m e ≡ None → IsKnown o source e → AllNotes (IsTellableIn o table change source) m.notes → AllNotes (IsTellableIn o table change source) (step m e).notes
-tellable_step fade o table change source m e route one f known h = all_step fade (IsTellableIn o table change source) m e h (begins_what o table change source m (step m e) e.tick e.what route one f known.0.what known.1)
+    → IsFineEvent o table m e.tick e.what → IsKnown o source e → AllNotes (IsTellableIn o table change source) m.notes → AllNotes (IsTellableIn o table change source) (step m e).notes
+tellable_step fade o table change source m e route one f known h = all_step fade (IsTellableIn o table change source) m e h (begins_what o table change source m e.tick e.what route one f known.0.what known.1)
 
 -- ---- what a sounding note was told
 abbrev pub IsToldNote : (ℕ → Bool) → Told → Note → Type 0

@@ -1,5 +1,5 @@
 -- The live route's output plays the same as its source.
-use Rattle.std.proofs.Common.{◌≡◌, ◌≤◌, ◌<◌, ℕ, zero, suc, List, [], ◌∷◌, ◌++◌, Bool, true, false, cond, ◌&&◌, not, nat_eq, Some, None, refl, ap, sym, ◌∙◌, subst, map, append_assoc}
+use Rattle.std.proofs.Common.{◌≡◌, ◌≤◌, ◌<◌, ℕ, zero, suc, List, [], ◌∷◌, ◌++◌, Bool, true, false, cond, ◌&&◌, not, nat_eq, Some, refl, ap, sym, ◌∙◌, subst, map, append_assoc}
 use Rattle.std.specs.List.{AllByRecursion, filter}
 use Rattle.mt_base.specs.declared.event.Msg.{Msg}
 use Rattle.mt_base.specs.declared.event.Msg.TheVariants.{NoteOn, NoteOff, KeyPressure, Control, Program, Pressure, Bend}
@@ -14,18 +14,19 @@ use Rattle.retune_model.proofs.Steady.{Steady, steady-quiet, steady-step}
 use Rattle.retune_model.proofs.Begun.{AllNotes}
 use Rattle.retune_model.specs.Table.{Scaling}
 use Rattle.retune_model.specs.Options.{Options, ByLive, bends_notes, has_drums, keeps_drums, is_drum_message, is_retuned}
-use Rattle.retune_model.specs.PlaysTheSame.{Pairwise, until, at_tick, retuned_notes, key_of, bend_target_if, output_key, IsSameNote, HasSameNotes, SoundsTheSame, HasSameSound, Beginning, last_note, beginning, beginnings_from, BeginsAlike, BeginsTheSame, PlaysTheSameMusic}
-use Rattle.retune_model.specs.Faults.{Targets, is_part, fault_at, IsFaultless}
+use Rattle.retune_model.specs.PlaysTheSame.{Pairwise, until, at_tick, retuned_notes, key_of, bend_target_if, output_key, IsSameNote, HasSameNotes}
+use Rattle.retune_model.proofs.Receivers.{SoundsTheSame, HasSameSound, Beginning, last_note, beginning, beginnings_from, BeginsAlike, BeginsTheSame, PlaysTheSameMusic}
+use Rattle.retune_model.specs.Faults.{Targets, is_part}
 use Rattle.retune_model.specs.Blocks.{Group, Sends, events_of, all_events, AreSilent, written}
 use Rattle.retune_model.specs.Routes.{translated, Live, Told, nothing_told, IsHarmlessLive, tuned_by, tuning_run, dump_before, dump_behind, change_due, live_before, live_next, live_block, live_output}
 use Rattle.retune_model.specs.Plain.{is_plain, ArePlain, IsTold, told_after, Reads}
-use Rattle.retune_model.specs.Dump.{told_value, live_setup, told_live}
-use Rattle.retune_model.specs.Dumpable.{IsLivable}
+use Rattle.retune_model.specs.Dump.{told_value, live_setup}
+use Rattle.retune_model.proofs.OnePort.{IsLivable, told_live}
 use Rattle.retune_model.proofs.Laws.{Laws}
 use Rattle.retune_model.proofs.SameMusic.{Ready, live_keeps, unselected-quiet}
 use Rattle.retune_model.proofs.Tunings.{made, groups_received, received}
 use Rattle.retune_model.proofs.Told.{told_message, told_next, told_run}
-use Rattle.retune_model.proofs.Faultless.{all_plain, no_zones_step, sysex_no_play}
+use Rattle.retune_model.proofs.Faultless.{IsFineEvent, AreFineFrom, all_plain, no_zones_step, sysex_no_play}
 use Rattle.retune_model.proofs.Fronts.{all_append, all_front, Split, split, until_source, until_split, ticks_before, ticks_behind, plain_front, faultless_front}
 use Rattle.retune_model.proofs.Served.{Shows, IsKnown, still_part, setup_harmless, setup_parts}
 use Rattle.retune_model.proofs.DumpSame.{last_added, pairwise_same, pairwise_append, of_notes, every_note, known, source_music, no_beginnings, LastHas, event}
@@ -118,7 +119,7 @@ part_note o source (Says x) shows msg c k v e f is =
 part_note o source (SysexOf lead bs) shows msg c k v e f is = absurd (sysex_no_play lead bs msg e)
 part_note o source (MetaOf kind bs) shows msg c k v e f is = absurd cc
 
-kept_step : (laws : Laws) (scaling : Scaling) (o : Options) (table : Targets) (change : ℕ → List ℕ) (source : List MidiEvent) (s : Told) (m : Music) (e : MidiEvent) → IsLivable scaling o table change source → fault_at o table m e ≡ None
+kept_step : (laws : Laws) (scaling : Scaling) (o : Options) (table : Targets) (change : ℕ → List ℕ) (source : List MidiEvent) (s : Told) (m : Music) (e : MidiEvent) → IsLivable scaling o table change source → IsFineEvent o table m e.tick e.what
     → IsKnown o source e → IsKept o table change source s m → IsKept o table change source (live_next (live_setup o change source) s (doing e.what)) (step m e)
 kept_step laws scaling o table change source s m e d f known k = record {
   zones = no_zones_step o table m e f k.zones;
@@ -126,7 +127,7 @@ kept_step laws scaling o table change source s m e d f known k = record {
   told = told_advance laws.fade (live_setup o change source) (is_retuned (keeps_drums o source)) s m e.tick (doing e.what) (part_note o source e.what known.1) k.told;
 }
 
-kept_play : (laws : Laws) (scaling : Scaling) (o : Options) (table : Targets) (change : ℕ → List ℕ) (source : List MidiEvent) (s : Told) (m : Music) (es : List MidiEvent) → IsLivable scaling o table change source → IsFaultless o table m es
+kept_play : (laws : Laws) (scaling : Scaling) (o : Options) (table : Targets) (change : ℕ → List ℕ) (source : List MidiEvent) (s : Told) (m : Music) (es : List MidiEvent) → IsLivable scaling o table change source → AreFineFrom o table m es
     → AllByRecursion (IsKnown o source) es → IsKept o table change source s m → IsKept o table change source (told_after (live_setup o change source) s es) (play m es)
 kept_play laws scaling o table change source s m [] d f known k = k
 kept_play laws scaling o table change source s m (e ∷ es) d f known k = kept_play laws scaling o table change source (live_next (live_setup o change source) s (doing e.what)) (step m e) es d f.1 known.1 (kept_step laws scaling o table change source s m e d f.0 known.0 k)
@@ -145,7 +146,7 @@ front : (laws : Laws) (scaling : Scaling) (o : Options) (table : Targets) (chang
 front laws scaling o table change es xs ys d e =
     let l : Live = live_setup o change es in
     let h : IsHarmlessLive l = harmless scaling o table change es d in
-    let clean : IsFaultless o table quiet xs = faultless_front o table quiet xs ys (subst (λ z. IsFaultless o table quiet z) e d.faultless) in
+    let clean : AreFineFrom o table quiet xs = faultless_front o table quiet xs ys (subst (λ z. AreFineFrom o table quiet z) e d.faultless) in
     let plain : ArePlain (is_part o) quiet xs = plain_front (is_part o) quiet xs ys (subst (λ z. ArePlain (is_part o) quiet z) e (all_plain o table quiet es d.valid d.faultless)) in
     let all : AllByRecursion (IsKnown o es) xs = all_front (IsKnown o es) xs ys (subst (λ z. AllByRecursion (IsKnown o es) z) e (known o es d.valid)) in
     record {
@@ -298,7 +299,7 @@ block_beginnings part l s m u e rest st before behind =
 
 begin_run : (laws : Laws) (scaling : Scaling) (o : Options) (table : Targets) (change : ℕ → List ℕ) (source : List MidiEvent) (s : Told) (m : Music) (w u : Tuning) (es : List MidiEvent)
     → IsLivable scaling o table change source → Steady m → Ready s.begun m → IsTold (live_setup o change source) (told_value table) s u → IsKept o table change source s m
-    → IsFaultless o table m es → ArePlain (is_part o) m es → AllByRecursion (IsKnown o source) es
+    → AreFineFrom o table m es → ArePlain (is_part o) m es → AllByRecursion (IsKnown o source) es
     → Pairwise (BeginsAlike scaling o) (beginnings_from (is_retuned (keeps_drums o source)) (made m w) es) (beginnings_from (is_retuned (keeps_drums o source)) (made m u) (blocks (live_setup o change source) s es))
 begin_run laws scaling o table change source s m w u [] d st ready told kept f plain all = tt
 begin_run laws scaling o table change source s m w u (e ∷ es) d st ready told kept f plain all =

@@ -16,10 +16,10 @@ use Rattle.retune_model.proofs.Begun.{AllNotes, Begins, BeginsIn, all_step}
 use Rattle.retune_model.specs.Table.{tuning_target}
 use Rattle.retune_model.specs.Options.{Options, ByDump, has_drums, is_drum_message, keeps_drums, is_retuned}
 use Rattle.retune_model.specs.PlaysTheSame.{begins_note}
-use Rattle.retune_model.specs.Faults.{Targets, is_part, has_target, misses_target, fault_in, fault_at, IsFaultless}
+use Rattle.retune_model.specs.Faults.{Targets, is_part, has_target, misses_target}
 use Rattle.retune_model.specs.Routes.{IsHarmless}
 use Rattle.retune_model.specs.Dump.{has_note_on, from_up, dump_if, dump_setup}
-use Rattle.retune_model.proofs.Faultless.{IsFine, fine, no_zones_step}
+use Rattle.retune_model.proofs.Faultless.{IsFineMessage, IsFineEvent, AreFineFrom, no_zones_step}
 use Rattle.retune_model.proofs.Heard.{IsHeard}
 use Rattle.retune_model.proofs.Fronts.{all_weaker}
 
@@ -114,7 +114,7 @@ still_part true has false f h = refl
 still_part true true true f h = h
 still_part true false true f h = (let e : false ≡ true = f refl in absurd cc)
 
-heard_note_on : (o : Options) (table : Targets) (bytes : List ℕ) (source : List MidiEvent) (m : Music) (c k v t : ℕ) → o.route ≡ ByDump → IsFine o table m t (NoteOn c k (suc v)) → c ≤ 15 → k ≤ 127
+heard_note_on : (o : Options) (table : Targets) (bytes : List ℕ) (source : List MidiEvent) (m : Music) (c k v t : ℕ) → o.route ≡ ByDump → IsFineMessage o table m t (NoteOn c k (suc v)) → c ≤ 15 → k ≤ 127
     → Shows o source (Says (NoteOn c k (suc v))) → is_retuned (keeps_drums o source) c ≡ true → IsHeard table (dump_setup o bytes source) bytes c k t
 heard_note_on o table bytes source m c k v t route f channel key shows retuned =
     let part : is_part o c ≡ true = still_part o.keep_drums (has_drums source) (nat_eq c 9) shows.drums retuned in
@@ -137,7 +137,7 @@ heard_note_on o table bytes source m c k v t route f channel key shows retuned =
 abbrev pub IsServed : Options → Targets → List ℕ → List MidiEvent → ℕ → ℕ → ℕ → Type 0
 IsServed o table bytes source c k t = is_retuned (keeps_drums o source) c ≡ true → IsHeard table (dump_setup o bytes source) bytes c k t
 
-begins_message : (o : Options) (table : Targets) (bytes : List ℕ) (source : List MidiEvent) (m : Music) (t : ℕ) (msg : Msg) → o.route ≡ ByDump → IsFine o table m t msg → IsValidWhat (Says msg)
+begins_message : (o : Options) (table : Targets) (bytes : List ℕ) (source : List MidiEvent) (m : Music) (t : ℕ) (msg : Msg) → o.route ≡ ByDump → IsFineMessage o table m t msg → IsValidWhat (Says msg)
     → Shows o source (Says msg) → Begins (IsServed o table bytes source) t msg
 begins_message o table bytes source m t (NoteOn c k (suc v)) route f valid shows = heard_note_on o table bytes source m c k v t route f valid.0 valid.1 shows
 begins_message o table bytes source m t (NoteOn c k zero) route f valid shows = tt
@@ -148,26 +148,26 @@ begins_message o table bytes source m t (Program c p) route f valid shows = tt
 begins_message o table bytes source m t (Pressure c v) route f valid shows = tt
 begins_message o table bytes source m t (Bend c v) route f valid shows = tt
 
-begins_what : (o : Options) (table : Targets) (bytes : List ℕ) (source : List MidiEvent) (m after : Music) (t : ℕ) (w : MidiWhat) → o.route ≡ ByDump → fault_in o table m after t w ≡ None → IsValidWhat w
+begins_what : (o : Options) (table : Targets) (bytes : List ℕ) (source : List MidiEvent) (m : Music) (t : ℕ) (w : MidiWhat) → o.route ≡ ByDump → IsFineEvent o table m t w → IsValidWhat w
     → Shows o source w → BeginsIn (IsServed o table bytes source) t w
-begins_what o table bytes source m after t (Says msg) route f valid shows = begins_message o table bytes source m t msg route (fine o table m after t msg f) valid shows
-begins_what o table bytes source m after t (SysexOf lead bs) route f valid shows = tt
-begins_what o table bytes source m after t (MetaOf kind bs) route f valid shows = tt
+begins_what o table bytes source m t (Says msg) route f valid shows = begins_message o table bytes source m t msg route f valid shows
+begins_what o table bytes source m t (SysexOf lead bs) route f valid shows = tt
+begins_what o table bytes source m t (MetaOf kind bs) route f valid shows = tt
 
 -- what is known of each event, but for its fault
 abbrev pub IsKnown : Options → List MidiEvent → MidiEvent → Type 0
 IsKnown o source e = IsValidEvent e × Shows o source e.what
 
-pub served_step : NotesFade → (o : Options) (table : Targets) (bytes : List ℕ) (source : List MidiEvent) (m : Music) (e : MidiEvent) → o.route ≡ ByDump → fault_at o table m e ≡ None → IsKnown o source e
+pub served_step : NotesFade → (o : Options) (table : Targets) (bytes : List ℕ) (source : List MidiEvent) (m : Music) (e : MidiEvent) → o.route ≡ ByDump → IsFineEvent o table m e.tick e.what → IsKnown o source e
     → AllNotes (IsServed o table bytes source) m.notes → AllNotes (IsServed o table bytes source) (step m e).notes
-served_step fade o table bytes source m e route f known h = all_step fade (IsServed o table bytes source) m e h (begins_what o table bytes source m (step m e) e.tick e.what route f known.0.what known.1)
+served_step fade o table bytes source m e route f known h = all_step fade (IsServed o table bytes source) m e h (begins_what o table bytes source m e.tick e.what route f known.0.what known.1)
 
-pub served_play : NotesFade → (o : Options) (table : Targets) (bytes : List ℕ) (source : List MidiEvent) (m : Music) (es : List MidiEvent) → o.route ≡ ByDump → IsFaultless o table m es → AllByRecursion (IsKnown o source) es
+pub served_play : NotesFade → (o : Options) (table : Targets) (bytes : List ℕ) (source : List MidiEvent) (m : Music) (es : List MidiEvent) → o.route ≡ ByDump → AreFineFrom o table m es → AllByRecursion (IsKnown o source) es
     → AllNotes (IsServed o table bytes source) m.notes → AllNotes (IsServed o table bytes source) (play m es).notes
 served_play fade o table bytes source m [] route f known h = h
 served_play fade o table bytes source m (e ∷ es) route f known h = served_play fade o table bytes source (step m e) es route f.1 known.1 (served_step fade o table bytes source m e route f.0 known.0 h)
 
-pub zones_play : (o : Options) (table : Targets) (m : Music) (es : List MidiEvent) → IsFaultless o table m es → m.zones ≡ no_zones → (play m es).zones ≡ no_zones
+pub zones_play : (o : Options) (table : Targets) (m : Music) (es : List MidiEvent) → AreFineFrom o table m es → m.zones ≡ no_zones → (play m es).zones ≡ no_zones
 zones_play o table m [] f z = z
 zones_play o table m (e ∷ es) f z = zones_play o table (step m e) es f.1 (no_zones_step o table m e f.0 z)
 

@@ -1,13 +1,16 @@
 -- The output of the dump and live routes for a source, its table and the options (this project's own).
 use Rattle.std.specs.Prelude.{◌≡◌, ℕ, zero, suc, ◌+◌, List, [], ◌∷◌, Bool, true, false, ◌&&◌, ◌||◌, filter, nat_eq, Option, Some, None, unwrap_or, ◌<◌}
 use Rattle.mt_base.specs.Midi.{MidiEvent}
-use Rattle.midi_model.specs.Sysex.{tuning_of, is_reset, is_tuning}
+use Rattle.midi_model.specs.Sysex.{doing, tuning_of, is_reset, is_tuning}
 use Rattle.midi_model.specs.TuningBytes.{numbered}
 use Rattle.retune_model.specs.Table.{Bounds, tuning_target}
 use Rattle.retune_model.specs.Options.{Options}
 use Rattle.retune_model.specs.PlaysTheSame.{begins_note}
 use Rattle.retune_model.specs.Faults.{Targets, is_part}
-use Rattle.retune_model.specs.Routes.{Setup, Live, dump_output, live_output}
+use Rattle.retune_model.specs.Ports.{events_on}
+use Rattle.retune_model.specs.PortOutput.{through_ports}
+use Rattle.retune_model.specs.Blocks.{written}
+use Rattle.retune_model.specs.Routes.{Setup, Live, dump_block, dump_next, live_block, live_next, nothing_told}
 
 -- whether a retuned part has a note on
 abbrev pub has_note_on : (ℕ → Bool) → List MidiEvent → Bool
@@ -60,13 +63,18 @@ dump_if false bytes = []
 abbrev pub dump_setup : Options → List ℕ → List MidiEvent → Setup
 dump_setup o bytes es = record { dumps = dump_if (has_note_on (is_part o) es) bytes; channels = sounding_parts o es; program = o.program }
 
--- The output of the dump route; bytes is the dump of the table's targets.
+-- The output of the dump route; bytes is the dump of the table's targets. The setup of a port stands right before the first channel
+-- message of the port, and right behind each reset of the port that comes later; it speaks of the parts of the port.
 abbrev pub dumped : Options → List ℕ → List MidiEvent → List MidiEvent
-dumped o bytes es = dump_output (dump_setup o bytes es) es
+dumped o bytes es = through_ports
+    (λ z b n. written (dump_block (dump_setup o bytes (events_on z es)) b n.event))
+    (λ z b n. dump_next b (doing n.event.what)) false es
 
--- The output of the live route; change k is the change of key k to its target.
+-- The output of the live route; change k is the change of key k to its target. What a port's setup and changes are is by the port alone.
 abbrev pub live_setup : Options → (ℕ → List ℕ) → List MidiEvent → Live
 live_setup o change es = record { setup = record { dumps = []; channels = sounding_parts o es; program = o.program }; is_retuned = is_part o; change = change }
 
 abbrev pub told_live : Options → (ℕ → List ℕ) → List MidiEvent → List MidiEvent
-told_live o change es = live_output (live_setup o change es) es
+told_live o change es = through_ports
+    (λ z s n. written (live_block (live_setup o change (events_on z es)) s n.event))
+    (λ z s n. live_next (live_setup o change (events_on z es)) s (doing n.event.what)) nothing_told es

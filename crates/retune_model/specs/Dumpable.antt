@@ -4,17 +4,17 @@ use Rattle.std.specs.List.{AllByRecursion}
 use Rattle.mt_base.specs.Midi.{MidiEvent}
 use Rattle.mt_base.specs.Valid.{IsValidEvent}
 use Rattle.midi_model.specs.Order.{AreInOrder}
-use Rattle.midi_model.specs.Music.{quiet}
 use Rattle.retune_model.specs.Table.{Scaling, IsTable, AreFewTerms}
 use Rattle.retune_model.specs.Options.{Options, ByDump, ByLive}
-use Rattle.retune_model.specs.Faults.{Targets, IsFaultless}
+use Rattle.retune_model.specs.Faults.{Targets}
+use Rattle.retune_model.specs.SourceFaults.{IsFaultless}
 use Rattle.retune_model.specs.Dump.{IsDumpOf, tuning_at, told_value, AreChangesOf}
 
 pub record IsDumpable (scaling : Scaling) (o : Options) (table : Targets) (bytes : List ℕ) (es : List MidiEvent) : Type 0 where
   pub route : o.route ≡ ByDump
   pub valid : AllByRecursion IsValidEvent es
   pub in_order : AreInOrder 0 es
-  pub faultless : IsFaultless o table quiet es
+  pub faultless : IsFaultless o table es
   pub bounds : IsTable scaling table
   pub few_terms : AreFewTerms scaling
   -- one scale throughout
@@ -25,7 +25,7 @@ pub record IsLivable (scaling : Scaling) (o : Options) (table : Targets) (change
   pub route : o.route ≡ ByLive
   pub valid : AllByRecursion IsValidEvent es
   pub in_order : AreInOrder 0 es
-  pub faultless : IsFaultless o table quiet es
+  pub faultless : IsFaultless o table es
   pub bounds : IsTable scaling table
   pub few_terms : AreFewTerms scaling
   -- one scale throughout

@@ -1,20 +1,18 @@
 -- Worked examples: scales, mappings, tables of bounds, sources and what they cause. Channels are counted from 0.
-use Rattle.std.specs.Prelude.{ℕ, zero, suc, ◌+◌, ◌*◌, ℤ, pos, negsuc, List, [], ◌∷◌, ◌++◌, true, nat_eq, if◌then◌else◌, Option, Some, None, length}
-use Rattle.mt_base.specs.declared.pair.Pair.{Pair}
-use Rattle.mt_base.specs.declared.event.Msg.{Msg}
-use Rattle.mt_base.specs.declared.event.Msg.TheVariants.{NoteOn, NoteOff, Control, Program}
+use Rattle.std.specs.Prelude.{ℕ, zero, suc, ◌+◌, ◌*◌, ℤ, pos, List, [], ◌∷◌, ◌++◌, true, nat_eq, if◌then◌else◌, Option, Some, None, length, map}
+use Rattle.mt_base.specs.declared.event.Msg.TheVariants.{NoteOn, NoteOff, Control, Program, Bend}
 use Rattle.mt_base.specs.Midi.{MidiEvent, MetaOf}
-use Rattle.midi_model.specs.Music.{quiet}
-use Rattle.midi_model.specs.Examples.{at, all_at, sysex, general_midi_on, registered}
+use Rattle.midi_model.specs.TuningBytes.{select_of}
+use Rattle.midi_model.specs.Examples.{at, all_at, sysex, general_midi_on}
 use Rattle.scl_text.specs.declared.entry.Entry.{Entry}
 use Rattle.scl_text.specs.declared.entry.Entry.TheVariants.{Ratio, Cents}
 use Rattle.kbm_text.specs.Map.{KeyMap}
 use Rattle.retune_model.specs.Table.{Bounds, Scaling, one_scale}
 use Rattle.retune_model.specs.Options.{Options, Route, ByBend, ByMpe}
-use Rattle.retune_model.specs.Faults.{Targets, Kind, first_fault}
-use Rattle.retune_model.specs.Numbered.{numbered}
-use Rattle.retune_model.specs.Pairs.{pairs_at}
-use Rattle.retune_model.specs.BendOutput.{bend_output}
+use Rattle.retune_model.specs.Faults.{Targets, Kind, is_part}
+use Rattle.retune_model.specs.Pairs.{Pair}
+use Rattle.retune_model.specs.PortNeed.{pairs_on, held_on, need_of}
+use Rattle.retune_model.specs.SourceFaults.{Fault, first_fault}
 
 -- ---- scales and mappings
 
@@ -74,10 +72,18 @@ joined_table key onset = if nat_eq key 70 then Some (exact_bounds (3200000000000
 -- ---- options
 
 abbrev pub with_route : Route → ℕ → Options
-with_route route range = record { route = route; range = range; keep_drums = true; program = 0 }
+with_route route range = record { route = route; range = range; keep_drums = true; program = 0; tail = 0 }
 
 abbrev pub bend_options : Options
 bend_options = with_route ByBend 12
+
+-- with a bend sensitivity and a tail
+abbrev pub at_range : ℕ → ℕ → Options
+at_range range tail = record (with_route ByBend range) { tail = tail }
+
+-- notes rest for so many ticks
+abbrev pub resting : ℕ → Options
+resting tail = record bend_options { tail = tail }
 
 abbrev pub mpe_options : Options
 mpe_options = with_route ByMpe 48
@@ -114,38 +120,71 @@ reset_between = at 0 (NoteOn 0 69 64) ∷ sysex 480 general_midi_on ∷ at 960 (
 abbrev pub wheel : List MidiEvent
 wheel = at 0 (NoteOn 0 69 64) ∷ at 240 (Control 0 1 100) ∷ at 480 (Control 0 121 0) ∷ at 960 (NoteOff 0 69 64) ∷ []
 
+-- one part after another at the same key; the second begins at a tick
+abbrev pub one_after_other : ℕ → List MidiEvent
+one_after_other t = at 0 (NoteOn 0 69 64) ∷ at 480 (NoteOff 0 69 64) ∷ at t (NoteOn 1 69 64) ∷ at 960 (NoteOff 1 69 64) ∷ []
+
+-- a bend while a note rests
+abbrev pub bent_at_rest : List MidiEvent
+bent_at_rest = at 0 (NoteOn 0 69 64) ∷ at 480 (NoteOff 0 69 64) ∷ at 490 (Bend 0 12288) ∷ []
+
+-- ---- sources with ports: a track with a port and one note
+
+abbrev pub port_event : ℕ → ℕ → MidiEvent
+port_event track port = record { tick = 0; track = track; what = MetaOf 0x21 (port ∷ []) }
+
+abbrev pub in_track : ℕ → MidiEvent → MidiEvent
+in_track track e = record e { track = track }
+
+abbrev pub begins_in : ℕ → List MidiEvent
+begins_in z = port_event z z ∷ in_track z (at 0 (NoteOn 0 69 64)) ∷ []
+
+abbrev pub ends_in : ℕ → List MidiEvent
+ends_in z = in_track z (at 480 (NoteOff 0 69 64)) ∷ []
+
+abbrev pub two_ports : List MidiEvent
+two_ports = begins_in 0 ++ (begins_in 1 ++ (ends_in 0 ++ ends_in 1))
+
+abbrev pub five_ports : List MidiEvent
+five_ports = begins_in 0 ++ (begins_in 1 ++ (begins_in 2 ++ (begins_in 3 ++ begins_in 4)))
+
+-- with a dump of one byte, and the selection on the first channel
+abbrev pub setup_in : ℕ → List MidiEvent
+setup_in z = map (in_track z) (sysex 0 (1 ∷ []) ∷ all_at 0 (select_of 0 0))
+
+abbrev pub dumped_begins_in : ℕ → List MidiEvent
+dumped_begins_in z = port_event z z ∷ (setup_in z ++ in_track z (at 0 (NoteOn 0 69 64)) ∷ [])
+
 -- ---- what is asked
 
--- how many pairs there are at each position from k on
-abbrev pub counts_from : Options → Targets → List MidiEvent → ℕ → ℕ → List ℕ
-counts_from o table es k zero = []
-counts_from o table es k (suc n) = length (pairs_at o table (numbered es) k) ∷ counts_from o table es (k + 1) n
+-- how many pairs of a port there are at each position from k on
+abbrev pub counts_from : Options → Targets → List MidiEvent → ℕ → ℕ → ℕ → List ℕ
+counts_from o table es z k zero = []
+counts_from o table es z k (suc n) = length (pairs_on o (is_part o) table es z k) ∷ counts_from o table es z (k + 1) n
 
-abbrev pub counts : Options → Targets → List MidiEvent → List ℕ
-counts o table es = counts_from o table es 0 (suc (length es))
+abbrev pub counts : Options → Targets → List MidiEvent → ℕ → List ℕ
+counts o table es z = counts_from o table es z 0 (suc (length es))
+
+abbrev pub pairs : Options → Targets → List MidiEvent → ℕ → ℕ → List Pair
+pairs o table es z k = pairs_on o (is_part o) table es z k
+
+abbrev pub held : Options → Targets → List MidiEvent → ℕ → ℕ → List Pair
+held o table es z k = held_on o (is_part o) table es z k
+
+abbrev pub needed : Options → List MidiEvent → ℕ → ℕ × ℕ
+needed o es z = need_of o (is_part o) equal_table es z
+
+-- a part of a port with so many steps
+abbrev pub pair : ℕ → ℕ → ℤ → Pair
+pair z c q = record { part = record { port = z; channel = c }; steps = q }
+
+-- the position and the kind of the first fault
+abbrev pub fault_if : Option Fault → Option (ℕ × Kind)
+fault_if (Some f) = Some (f.position, f.kind)
+fault_if None = None
 
 abbrev pub fault_of : Options → Targets → List MidiEvent → Option (ℕ × Kind)
-fault_of o table es = first_fault o table quiet 0 es
-
--- all on the first channel
-abbrev pub on_first : ℕ → Pair → ℕ
-on_first k p = 0
-
--- the pair without a bend on the first channel, -93 steps on the second, 13 on the third
-abbrev pub on_three : ℕ → Pair → ℕ
-on_three k p = place p.steps
-  where
-    place : ℤ → ℕ
-    place (pos zero) = 0
-    place (negsuc n) = 1
-    place (pos (suc n)) = 2
-
-abbrev pub bent : Targets → (ℕ → Pair → ℕ) → List MidiEvent → List MidiEvent
-bent table channel es = bend_output bend_options table channel es
-
--- what makes a channel ready on the bend route
-abbrev pub ready : ℕ → List Msg
-ready c = registered c 0 12
+fault_of o table es = fault_if (first_fault o table es)
 
 -- the change of key 69 to 69 semitones
 abbrev pub change : ℕ → List ℕ

@@ -1,16 +1,14 @@
--- What a source may not hold (this project's own). The kinds are numbered 1 to 12 in the order in which they stand here.
-use Rattle.std.specs.Prelude.{◌≡◌, ℕ, suc, ℤ, pos, negsuc, ◌+ℤ◌, List, [], ◌∷◌, Bool, true, false, ◌&&◌, ◌||◌, not, nat_eq, nat_lt, if◌then◌else◌, Option, Some, None, is_some}
+-- The kinds of what a source may not hold, numbered 1 to 12 in the order in which they stand here, and tests of a message for them (this
+-- project's own).
+use Rattle.std.specs.Prelude.{ℕ, suc, ℤ, pos, negsuc, List, [], ◌∷◌, Bool, true, false, ◌&&◌, ◌||◌, not, nat_eq, nat_lt, if◌then◌else◌, Option, Some, None, is_some}
 use Rattle.mt_base.specs.declared.event.Msg.{Msg}
 use Rattle.mt_base.specs.declared.event.Msg.TheVariants.{NoteOn, KeyPressure, Control}
-use Rattle.mt_base.specs.Midi.{MidiWhat, Says, SysexOf, MetaOf, MidiEvent, channel_of}
-use Rattle.midi_model.specs.Sysex.{is_tuning}
 use Rattle.midi_model.specs.Params.{pair_eq}
-use Rattle.midi_model.specs.Channel.{counted, Selection, Role, EntryHigh, EntryLow, role}
+use Rattle.midi_model.specs.Channel.{Selection, Role, EntryHigh, EntryLow, role}
 use Rattle.midi_model.specs.Notes.{Note, sounds}
-use Rattle.midi_model.specs.Music.{Music, channel_at, step}
+use Rattle.midi_model.specs.Music.{Music, channel_at}
 use Rattle.retune_model.specs.Table.{Bounds, BendTarget, bend_target, tuning_target}
 use Rattle.retune_model.specs.Options.{Route, ByDump, ByLive, ByBend, ByMpe, Options, bends_notes, is_retuned}
-use Rattle.retune_model.specs.Source.{bend_in_steps}
 use Rattle.retune_model.specs.PlaysTheSame.{bend_target_if}
 
 pub data Kind : Type 0 where
@@ -83,21 +81,14 @@ is_restrike o table m t (NoteOn c k (suc v)) = bends_notes o.route && (is_part o
     && any_note (λ n. (sounds n && nat_eq n.channel c) && (nat_eq n.key k && not (is_same_target (target_of o table n) (bend_target_if o.range (table k t))))) m.notes)
 is_restrike o table m t _ = false
 
--- bend: after the message, the steps of a sounding note of its part and those of the part's bend are together beyond a bend's
+-- the steps of a pair and those of its part's bend are together within a bend's
 abbrev pub is_within_bend : ℤ → Bool
 is_within_bend (pos n) = nat_lt n 8192
 is_within_bend (negsuc n) = nat_lt n 8192
 
-abbrev pub is_beyond : ℤ → Option BendTarget → Bool
-is_beyond r (Some t) = not (is_within_bend (t.steps +ℤ r))
-is_beyond r None = false
-
 abbrev pub is_bend : Route → Bool
 is_bend ByBend = true
 is_bend _ = false
-
-abbrev pub is_bent_too_far : Options → Targets → ℕ → Music → Bool
-is_bent_too_far o table c m = any_note (λ n. (sounds n && nat_eq n.channel c) && is_beyond (bend_in_steps o.range (channel_at m c)) (target_of o table n)) m.notes
 
 -- controllers 125 and 126, the modes omni on and mono; 96 and 97, data increment and decrement
 abbrev pub is_mode : Options → Msg → Bool
@@ -139,47 +130,3 @@ is_poly o _ = false
 abbrev pub first_that : List (Kind × Bool) → Option Kind
 first_that [] = None
 first_that (x ∷ xs) = if x.1 then Some x.0 else first_that xs
-
--- after is the music after the message
-abbrev pub message_tests : Options → Targets → ℕ → Music → Music → Msg → List (Kind × Bool)
-message_tests o table t m after msg =
-    (UnmappedKey, is_unmapped o table t msg)
-    ∷ (KeyOutOfDevice, is_out_of_device o table t msg)
-    ∷ (Unison, is_unison o table m t msg)
-    ∷ (BendTooFar, is_bend o.route && (is_part o (channel_of msg) && is_bent_too_far o table (channel_of msg) after))
-    ∷ (ModeMessage, is_mode o msg)
-    ∷ (DataStep, is_data_step o msg)
-    ∷ (TuningInSource, is_tuning_entry o m msg)
-    ∷ (MpeSource, is_zone_entry o m msg)
-    ∷ (TooManyParameters, is_part o (channel_of msg) && nat_lt 16 (counted (channel_at after (channel_of msg))))
-    ∷ (PolyInMpe, is_poly o msg)
-    ∷ (Restrike, is_restrike o table m t msg)
-    ∷ []
-
--- FF 21 01 pp names a port other than 0
-abbrev pub is_port : ℕ → List ℕ → Bool
-is_port kind (p ∷ []) = nat_eq kind 0x21 && not (nat_eq p 0)
-is_port kind _ = false
-
--- The first kind of fault at an event, with the music before it.
-abbrev pub fault_in : Options → Targets → Music → Music → ℕ → MidiWhat → Option Kind
-fault_in o table m after t (Says msg) = first_that (message_tests o table t m after msg)
-fault_in o table m after t (SysexOf lead bytes) = if nat_eq lead 0xf0 && is_tuning bytes then Some TuningInSource else None
-fault_in o table m after t (MetaOf kind bytes) = if is_port kind bytes then Some Port else None
-
-abbrev pub fault_at : Options → Targets → Music → MidiEvent → Option Kind
-fault_at o table m e = fault_in o table m (step m e) e.tick e.what
-
--- no event has a fault
-abbrev pub IsFaultless : Options → Targets → Music → List MidiEvent → Type 0
-IsFaultless o table m [] = Unit {0}
-IsFaultless o table m (e ∷ es) = (fault_at o table m e ≡ None) × IsFaultless o table (step m e) es
-
--- the place of the first event that has one, counted on from k, and the kind
-abbrev pub or_later : ℕ → Option Kind → Option (ℕ × Kind) → Option (ℕ × Kind)
-or_later k (Some kind) later = Some (k, kind)
-or_later k None later = later
-
-abbrev pub first_fault : Options → Targets → Music → ℕ → List MidiEvent → Option (ℕ × Kind)
-first_fault o table m k [] = None
-first_fault o table m k (e ∷ es) = or_later (suc k) (fault_at o table m e) (first_fault o table (step m e) (suc k) es)

@@ -17,6 +17,8 @@ pub record Options : Type 0 where
   pub keep_drums : Bool
   -- the tuning program
   pub program : ℕ
+  -- for how many ticks after its end a note rests, and keeps its channel on the bend route
+  pub tail : ℕ
 
 abbrev pub bends_notes : Route → Bool
 bends_notes ByDump = false
@@ -52,3 +54,7 @@ half_step ByMpe range = 195312500 * range
 -- how far a note may be from its pitch: half a step of the device and a thousandth of a cent
 abbrev pub bound : Options → ℕ
 bound o = half_step o.route o.range + 32000000
+
+-- where notes don't rest
+abbrev pub restless : Options → Options
+restless o = record o { tail = 0 }

@@ -1,7 +1,7 @@
 -- What the output must do: play what the source plays, each note at its source pitch (this project's own).
 --
 -- The music of a source and of an output is given as two lists of events, each in the order in which it is played: the events of
--- one port. A file with one port is the list of all its events.
+-- one port.
 use Rattle.std.specs.Prelude.{◌≡◌, ◌≢◌, ℕ, suc, ℤ, List, [], ◌∷◌, ◌++◌, Bool, true, false, ◌&&◌, not, nat_eq, nat_le, if◌then◌else◌, Option, Some, None, map, filter, length}
 use Rattle.mt_base.specs.declared.event.Msg.TheVariants.{NoteOn}
 use Rattle.mt_base.specs.Midi.{MidiWhat, Says, SysexOf, Timed, MidiEvent}
@@ -13,12 +13,13 @@ use Rattle.midi_model.specs.Params.{Parameter, value_of, rpn}
 use Rattle.midi_model.specs.Channel.{Channel}
 use Rattle.midi_model.specs.Zones.{governor}
 use Rattle.midi_model.specs.Notes.{Note, sounds}
-use Rattle.midi_model.specs.Music.{channel_at}
-use Rattle.midi_model.specs.Receiver.{Receiver, start, receive, after}
+use Rattle.midi_model.specs.Music.{Music, channel_at}
+use Rattle.midi_model.specs.Receiver.{Receiver, after}
 use Rattle.midi_model.specs.Played.{played}
 use Rattle.retune_model.specs.Table.{Scaling, Bounds, BendTarget, bend_target}
 use Rattle.retune_model.specs.Options.{Route, Options, bends_notes, is_drum_message, keeps_drums, is_retuned, bound}
 use Rattle.retune_model.specs.Source.{source_pitch}
+use Rattle.retune_model.specs.Ports.{events_on}
 
 -- two lists are equally long, and their elements agree in order
 abbrev pub Pairwise : {A B : Type 0} → (A → B → Type 0) → List A → List B → Type 0
@@ -71,29 +72,42 @@ abbrev pub IsWithin : Option Pitch → ℤ → ℕ → Type 0
 IsWithin (Some p) n d = Within p n d
 IsWithin None n d = ⊥
 
--- the channel whose state a note has: its master's where it is a zone's member, else its own
-abbrev pub state_of : Receiver → Note → Channel
-state_of r n = channel_at r.music (governor r.music.zones n.channel)
+-- What the output is played by: the pitch at which it plays a note once it took some events, in grains above key 0, and how far that may
+-- be from the note's source pitch.
+pub record Device : Type 0 where
+  pub pitch : List MidiEvent → Note → ℤ
+  pub bound : ℕ
 
-pub record SoundsTheSame (scaling : Scaling) (o : Options) (rs ro : Receiver) (a b : Note) : Type 0 where
-  pub controls : (state_of ro b).controls ≡ (state_of rs a).controls
-  pub pressure : (state_of ro b).pressure ≡ (state_of rs a).pressure
+-- the receiver itself, within half a step of the route and a thousandth of a cent
+abbrev pub plain_device : Options → Device
+plain_device o = record { pitch = λ es n. played (after es) n; bound = bound o }
+
+-- the channel whose state a note has: its master's where it is a zone's member, else its own
+abbrev pub state_of : Music → Note → Channel
+state_of m n = channel_at m (governor m.zones n.channel)
+
+-- Once the source's events have come and once the output's have, two notes have the same controllers, pressures and parameters, and the
+-- device plays the one within its bound of the source pitch of the other.
+pub record SoundsTheSame (scaling : Scaling) (o : Options) (device : Device) (source out : List MidiEvent) (a b : Note) : Type 0 where
+  pub controls : (state_of (after out).music b).controls ≡ (state_of (after source).music a).controls
+  pub pressure : (state_of (after out).music b).pressure ≡ (state_of (after source).music a).pressure
   pub key_pressure : b.pressure ≡ a.pressure
   -- all parameters but the bend sensitivity
-  pub parameters : (p : Parameter) → p ≢ rpn 0 → value_of (state_of ro b).params p ≡ value_of (state_of rs a).params p
-  pub pitch : IsWithin (source_pitch scaling o rs.music a) (played ro b) (bound o)
+  pub parameters : (p : Parameter) → p ≢ rpn 0 → value_of (state_of (after out).music b).params p ≡ value_of (state_of (after source).music a).params p
+  pub pitch : IsWithin (source_pitch scaling o (after source).music a) (device.pitch out b) device.bound
 
 -- At every tick, each retuned note of the source that sounds then has its controllers, pressures and parameters in the output too,
 -- and is played within the bound of its source pitch.
-abbrev pub HasSameSound : Scaling → Options → (ℕ → Bool) → List MidiEvent → List MidiEvent → Type 0
-HasSameSound scaling o part source out = (t : ℕ) →
-    Pairwise (λ a b. sounds a ≡ true → SoundsTheSame scaling o (at_tick t source) (at_tick t out) a b) (retuned_notes part (at_tick t source)) (retuned_notes part (at_tick t out))
+abbrev pub HasSameSound : Scaling → Options → Device → (ℕ → Bool) → List MidiEvent → List MidiEvent → Type 0
+HasSameSound scaling o device part source out = (t : ℕ) →
+    Pairwise (λ a b. sounds a ≡ true → SoundsTheSame scaling o device (until t source) (until t out) a b)
+    (retuned_notes part (at_tick t source)) (retuned_notes part (at_tick t out))
 
 -- ---- right from its beginning
 
--- a note with the receiver right after the event that begins it, and that event's track
+-- a note with the events up to and including the one that begins it, and that event's track
 pub record Beginning : Type 0 where
-  pub receiver : Receiver
+  pub events : List MidiEvent
   pub note : Note
   pub track : ℕ
 
@@ -103,36 +117,37 @@ begins_note part (Says (NoteOn c k (suc v))) = part c
 begins_note part _ = false
 
 -- the note that was begun last
-abbrev pub last_note : Receiver → ℕ → List Note → List Beginning
-last_note r track [] = []
-last_note r track (n ∷ []) = record { receiver = r; note = n; track = track } ∷ []
-last_note r track (n ∷ m ∷ ns) = last_note r track (m ∷ ns)
+abbrev pub last_note : List MidiEvent → ℕ → List Note → List Beginning
+last_note es track [] = []
+last_note es track (n ∷ []) = record { events = es; note = n; track = track } ∷ []
+last_note es track (n ∷ m ∷ ns) = last_note es track (m ∷ ns)
 
-abbrev pub beginning : (ℕ → Bool) → Receiver → MidiEvent → List Beginning
-beginning part r e = if begins_note part e.what then last_note r e.track r.music.notes else []
+-- es are the events up to and including e
+abbrev pub beginning : (ℕ → Bool) → List MidiEvent → MidiEvent → List Beginning
+beginning part es e = if begins_note part e.what then last_note es e.track (after es).music.notes else []
 
-abbrev pub beginnings_from : (ℕ → Bool) → Receiver → List MidiEvent → List Beginning
-beginnings_from part r [] = []
-beginnings_from part r (e ∷ es) = beginning part (receive r e) e ++ beginnings_from part (receive r e) es
+abbrev pub beginnings_from : (ℕ → Bool) → List MidiEvent → List MidiEvent → List Beginning
+beginnings_from part before [] = []
+beginnings_from part before (e ∷ es) = let now = before ++ e ∷ [] in beginning part now e ++ beginnings_from part now es
 
 -- of each retuned note, in the order of note ons
 abbrev pub beginnings : (ℕ → Bool) → List MidiEvent → List Beginning
-beginnings part es = beginnings_from part start es
+beginnings part es = beginnings_from part [] es
 
-pub record BeginsAlike (scaling : Scaling) (o : Options) (a b : Beginning) : Type 0 where
+pub record BeginsAlike (scaling : Scaling) (o : Options) (device : Device) (a b : Beginning) : Type 0 where
   pub track : b.track ≡ a.track
-  pub pitch : IsWithin (source_pitch scaling o a.receiver.music a.note) (played b.receiver b.note) (bound o)
+  pub pitch : IsWithin (source_pitch scaling o (after a.events).music a.note) (device.pitch b.events b.note) device.bound
 
 -- Right after the event that begins the i-th retuned note, in the source and in the output, it is played within the bound of its
 -- source pitch, and the two events stand in tracks of the same number.
-abbrev pub BeginsTheSame : Scaling → Options → (ℕ → Bool) → List MidiEvent → List MidiEvent → Type 0
-BeginsTheSame scaling o part source out = Pairwise (BeginsAlike scaling o) (beginnings part source) (beginnings part out)
+abbrev pub BeginsTheSame : Scaling → Options → Device → (ℕ → Bool) → List MidiEvent → List MidiEvent → Type 0
+BeginsTheSame scaling o device part source out = Pairwise (BeginsAlike scaling o device) (beginnings part source) (beginnings part out)
 
 -- the three that speak of music, for the events of one port
-pub record PlaysTheSameMusic (scaling : Scaling) (o : Options) (table : ℕ → ℕ → Option Bounds) (source out : List MidiEvent) : Type 0 where
+pub record PlaysTheSameMusic (scaling : Scaling) (o : Options) (table : ℕ → ℕ → Option Bounds) (device : Device) (source out : List MidiEvent) : Type 0 where
   pub notes : HasSameNotes (output_key o table) (is_retuned (keeps_drums o source)) source out
-  pub sound : HasSameSound scaling o (is_retuned (keeps_drums o source)) source out
-  pub beginnings : BeginsTheSame scaling o (is_retuned (keeps_drums o source)) source out
+  pub sound : HasSameSound scaling o device (is_retuned (keeps_drums o source)) source out
+  pub beginnings : BeginsTheSame scaling o device (is_retuned (keeps_drums o source)) source out
 
 -- ---- all else in the file
 
@@ -156,7 +171,7 @@ without_tuning r es = if bends_notes r then es else filter (λ e. not (is_tuning
 abbrev pub KeepsOtherEvents : Options → List MidiEvent → List MidiEvent → Type 0
 KeepsOtherEvents o source out = (track : ℕ) → without_tuning o.route (other_events track out) ≡ other_events track source
 
--- Where drums are kept, the messages on channel 10 are those of the source, track by track.
+-- Where drums are kept, the messages on channel 10 of a port are those of the source, track by track.
 abbrev pub drum_events : ℕ → List MidiEvent → List Timed
 drum_events track es = map timed (filter (λ e. is_drum_message e.what) (of_track track es))
 
@@ -169,9 +184,17 @@ pub record HasSameShape (source out : MidiFile) : Type 0 where
   pub division : out.division ≡ source.division
   pub tracks : length out.tracks ≡ length source.tracks
 
--- The output plays the same as the source.
-pub record PlaysTheSame (scaling : Scaling) (o : Options) (table : ℕ → ℕ → Option Bounds) (source out : MidiFile) : Type 0 where
+-- what concerns the events of two files: the music and the drums of each port, and all other events
+pub record PlayTheSame (scaling : Scaling) (o : Options) (table : ℕ → ℕ → Option Bounds) (device : Device) (source out : List MidiEvent) : Type 0 where
+  pub music : (z : ℕ) → PlaysTheSameMusic scaling o table device (events_on z source) (events_on z out)
+  pub others : KeepsOtherEvents o source out
+  pub drums : (z : ℕ) → KeepsDrums o (events_on z source) (events_on z out)
+
+-- The output plays the same as the source on a device.
+pub record PlaysTheSameOn (device : Device) (scaling : Scaling) (o : Options) (table : ℕ → ℕ → Option Bounds) (source out : MidiFile) : Type 0 where
   pub shape : HasSameShape source out
-  pub music : PlaysTheSameMusic scaling o table (merged source) (merged out)
-  pub others : KeepsOtherEvents o (merged source) (merged out)
-  pub drums : KeepsDrums o (merged source) (merged out)
+  pub events : PlayTheSame scaling o table device (merged source) (merged out)
+
+-- The output plays the same as the source.
+abbrev pub PlaysTheSame : Scaling → Options → (ℕ → ℕ → Option Bounds) → MidiFile → MidiFile → Type 0
+PlaysTheSame scaling o table source out = PlaysTheSameOn (plain_device o) scaling o table source out

@@ -1,25 +1,26 @@
 //! What the definitions say of small scales and sources. The functions do nothing: their contracts are the examples.
 
-ghost use Rattle.std.specs.Prelude.{◌≡◌, ◌++◌, ◌+◌, ◌*◌, ◌-◌, ℕ, ℤ, true, false, List, [], ◌∷◌, pos, negsuc, neg_ℤ, Some, None, length};
+ghost use Rattle.std.specs.Prelude.{◌≡◌, ◌++◌, ◌+◌, ◌*◌, ◌-◌, ◌≤◌, ℕ, ℤ, true, false, List, [], ◌∷◌, pos, negsuc, neg_ℤ, Some, None, length};
 ghost use Rattle.mt_base.specs.declared.event.Msg.TheVariants.{NoteOn, NoteOff, KeyPressure, Control, Program, Pressure, Bend};
-ghost use Rattle.mt_base.specs.Midi.{MetaOf};
 ghost use Rattle.midi_model.specs.Music.{quiet, play, channel_at};
 ghost use Rattle.midi_model.specs.TuningBytes.{select_of};
-ghost use Rattle.midi_model.specs.Examples.{at, all_at, sysex, general_midi_on, registered, two_channels, dump};
+ghost use Rattle.midi_model.specs.Examples.{at, all_at, sysex, two_channels, dump};
 ghost use Rattle.kbm_text.specs.Map.{a440};
 ghost use Rattle.retune_model.specs.Scale.{scale_pitch, term_count};
 ghost use Rattle.retune_model.specs.Table.{nearest_tuning, nearest_key, nearest_steps};
 ghost use Rattle.retune_model.specs.Options.{ByDump, ByLive, ByBend, ByMpe};
 ghost use Rattle.retune_model.specs.Source.{bend_in_steps};
-ghost use Rattle.retune_model.specs.Faults.{UnmappedKey, Unison, BendTooFar, ModeMessage, DataStep, TuningInSource, MpeSource, Port, TooManyParameters, PolyInMpe};
-ghost use Rattle.retune_model.specs.Numbered.{numbered, tick_at};
-ghost use Rattle.retune_model.specs.Pairs.{pairs_at};
+ghost use Rattle.retune_model.specs.Faults.{UnmappedKey, Unison, BendTooFar, ModeMessage, DataStep, TuningInSource, MpeSource, Port, TooManyParameters, PolyInMpe, is_part};
+ghost use Rattle.retune_model.specs.Ports.{tick_to};
+ghost use Rattle.retune_model.specs.PortNeed.{IsValidOn, size_on};
+ghost use Rattle.retune_model.specs.SourceFaults.{first_fault, IsSound};
 ghost use Rattle.retune_model.specs.Dump.{dumped, told_live};
-ghost use Rattle.retune_model.specs.MpeOutput.{mpe_output, zones_for, lower_allowed, members_from};
-ghost use Rattle.retune_model.specs.Examples.{two_steps, comma, comma_mapping, gapped_mapping, equal_table, just_table, gapped_table, joined_table, with_route, bend_options, mpe_options, end_at, one_note, chord, octave_apart, two_parts, taken_over, reset_between, wheel, counts, fault_of, on_first, on_three, bent, ready, change, even};
-ghost use Rattle.retune_model.specs.PlaysTheSame.{PlaysTheSameMusic};
+ghost use Rattle.retune_model.specs.PlaysTheSame.{PlayTheSame, plain_device};
 ghost use Rattle.retune_model.specs.Dumpable.{IsDumpable};
+ghost use Rattle.retune_model.specs.Examples.{two_steps, comma, comma_mapping, gapped_mapping, equal_table, just_table, gapped_table, joined_table, with_route, at_range, resting, bend_options, mpe_options, end_at, one_note, chord, octave_apart, two_parts, reset_between, one_after_other, bent_at_rest, port_event, two_ports, five_ports, ends_in, dumped_begins_in, counts, pairs, pair, held, needed, fault_of, change, even};
 
+use crate::channels::fewest_channels;
+use crate::faults::fault_laws;
 use crate::routes::dump_plays_the_same;
 use mt_base::laws::exact;
 
@@ -64,53 +65,82 @@ pub fn fault_examples()
     ensures data_step { fault_of (with_route ByLive 12) equal_table (at 0 (Control 0 96 0) ∷ []) ≡ Some (1, DataStep) }
     ensures mode { fault_of (with_route ByLive 12) equal_table (at 0 (Control 0 126 0) ∷ []) ≡ Some (1, ModeMessage) }
     ensures tuning_message { fault_of (with_route ByLive 12) equal_table (sysex 0 dump ∷ []) ≡ Some (1, TuningInSource) }
-    ensures port { fault_of (with_route ByLive 12) equal_table (record { tick = 0; track = 0; what = MetaOf 0x21 (1 ∷ []) } ∷ []) ≡ Some (1, Port) }
-    ensures first_port { fault_of (with_route ByLive 12) equal_table (record { tick = 0; track = 0; what = MetaOf 0x21 (0 ∷ []) } ∷ []) ≡ None }
+    ensures port { fault_of (with_route ByLive 12) equal_table (port_event 0 1 ∷ []) ≡ None }
+    ensures port_behind { fault_of (with_route ByLive 12) equal_table (at 0 (NoteOn 0 69 64) ∷ port_event 0 1 ∷ []) ≡ Some (2, Port) }
     ensures key_pressure { fault_of mpe_options equal_table (all_at 0 (NoteOn 0 69 64 ∷ KeyPressure 0 69 9 ∷ [])) ≡ Some (2, PolyInMpe) }
 {}
 
-/// How many pairs sound at each position, and which ones where there are most, by example.
+/// How many pairs there are at each position, and which ones where there are most, by example.
 pub fn pair_examples()
-    ensures octave { counts bend_options just_table octave_apart ≡ 0 ∷ 1 ∷ 1 ∷ [] }
-    ensures two_parts { counts bend_options equal_table two_parts ≡ 0 ∷ 1 ∷ 2 ∷ [] }
-    ensures two_parts_pairs { pairs_at bend_options equal_table (numbered two_parts) 2 ≡ record { part = 0; steps = pos 0 } ∷ record { part = 1; steps = pos 0 } ∷ [] }
-    ensures pedal { counts bend_options equal_table two_channels ≡ 0 ∷ 0 ∷ 1 ∷ 1 ∷ 2 ∷ 1 ∷ 0 ∷ 1 ∷ 0 ∷ [] }
-    ensures pedal_tick { tick_at (numbered two_channels) 4 ≡ 480 }
-    ensures chord { counts bend_options just_table chord ≡ 0 ∷ 1 ∷ 2 ∷ 3 ∷ 2 ∷ 1 ∷ 0 ∷ [] }
-    ensures chord_pairs { pairs_at bend_options just_table (numbered chord) 3 ≡ record { part = 0; steps = neg_ℤ (pos 93) } ∷ record { part = 0; steps = pos 0 } ∷ record { part = 0; steps = pos 13 } ∷ [] }
+    ensures octave { counts bend_options just_table octave_apart 0 ≡ 0 ∷ 1 ∷ 1 ∷ [] }
+    ensures two_parts { counts bend_options equal_table two_parts 0 ≡ 0 ∷ 1 ∷ 2 ∷ [] }
+    ensures two_parts_pairs { pairs bend_options equal_table two_parts 0 2 ≡ pair 0 0 (pos 0) ∷ pair 0 1 (pos 0) ∷ [] }
+    ensures pedal { counts bend_options equal_table two_channels 0 ≡ 0 ∷ 0 ∷ 1 ∷ 1 ∷ 2 ∷ 1 ∷ 0 ∷ 1 ∷ 0 ∷ [] }
+    ensures pedal_tick { tick_to two_channels 4 ≡ 480 }
+    ensures chord { counts bend_options just_table chord 0 ≡ 0 ∷ 1 ∷ 2 ∷ 3 ∷ 2 ∷ 1 ∷ 0 ∷ [] }
+    ensures chord_pairs { pairs bend_options just_table chord 0 3 ≡ pair 0 0 (neg_ℤ (pos 93)) ∷ pair 0 0 (pos 0) ∷ pair 0 0 (pos 13) ∷ [] }
 {}
 
-/// The outputs of the four routes, by example.
+/// One part takes over from another: without a tail one channel is enough; with a tail of 1 the first note still rests as the second
+/// begins at the same tick, and no longer where it begins a tick later.
+pub fn rest_examples()
+    ensures need_no_tail { needed (resting 0) (one_after_other 480) 0 ≡ (1, 1) }
+    ensures need_tail { needed (resting 1) (one_after_other 480) 0 ≡ (2, 3) }
+    ensures need_later { needed (resting 1) (one_after_other 481) 0 ≡ (1, 1) }
+    ensures no_tail { counts (resting 0) equal_table (one_after_other 480) 0 ≡ 0 ∷ 1 ∷ 0 ∷ 1 ∷ 0 ∷ [] }
+    ensures tail { counts (resting 1) equal_table (one_after_other 480) 0 ≡ 0 ∷ 1 ∷ 1 ∷ 2 ∷ 1 ∷ [] }
+    ensures tail_pairs { pairs (resting 1) equal_table (one_after_other 480) 0 3 ≡ pair 0 0 (pos 0) ∷ pair 0 1 (pos 0) ∷ [] }
+    ensures tail_tick { tick_to (one_after_other 480) 3 ≡ 480 }
+    ensures later { counts (resting 1) equal_table (one_after_other 481) 0 ≡ 0 ∷ 1 ∷ 1 ∷ 1 ∷ 1 ∷ [] }
+    ensures held_there { held (resting 1) equal_table (one_after_other 480) 0 3 ≡ pair 0 0 (pos 0) ∷ [] }
+    ensures not_held { held (resting 1) equal_table (one_after_other 481) 0 3 ≡ [] }
+{}
+
+/// A bend that goes too far for a pair that rests is a fault, and none once the rest has run out.
+pub fn beyond_examples()
+    ensures rests { first_fault (at_range 1 100) equal_table bent_at_rest ≡ Some (record { position = 3; tick = 490; track = 0; kind = BendTooFar; bend = Some (pos 0, pos 8192) }) }
+    ensures over { first_fault (at_range 1 10) equal_table bent_at_rest ≡ None }
+{}
+
+/// Two ports, each with a note; a track that changes its port; a fifth port; what is dumped for two ports.
+pub fn port_examples()
+    ensures first { counts bend_options equal_table two_ports 0 ≡ 0 ∷ 0 ∷ 1 ∷ 1 ∷ 1 ∷ 0 ∷ 0 ∷ [] }
+    ensures second { counts bend_options equal_table two_ports 1 ≡ 0 ∷ 0 ∷ 0 ∷ 0 ∷ 1 ∷ 1 ∷ 0 ∷ [] }
+    ensures need_first { needed bend_options two_ports 0 ≡ (1, 2) }
+    ensures need_second { needed bend_options two_ports 1 ≡ (1, 4) }
+    ensures first_pairs { pairs bend_options equal_table two_ports 0 2 ≡ pair 0 0 (pos 0) ∷ [] }
+    ensures second_pairs { pairs bend_options equal_table two_ports 1 4 ≡ pair 1 0 (pos 0) ∷ [] }
+    ensures dumped { dumped (with_route ByDump 12) (1 ∷ []) two_ports ≡ dumped_begins_in 0 ++ (dumped_begins_in 1 ++ (ends_in 0 ++ ends_in 1)) }
+    ensures fine { first_fault bend_options equal_table two_ports ≡ None }
+    ensures changed { first_fault bend_options equal_table (port_event 0 0 ∷ port_event 0 1 ∷ []) ≡ Some (record { position = 2; tick = 0; track = 0; kind = Port; bend = None }) }
+    ensures same { first_fault bend_options equal_table (port_event 0 1 ∷ port_event 0 1 ∷ []) ≡ None }
+    ensures fifth { first_fault bend_options equal_table five_ports ≡ Some (record { position = 10; tick = 0; track = 4; kind = Port; bend = None }) }
+{}
+
+/// The outputs of the dump and live routes, by example.
 pub fn output_examples()
     ensures dump { dumped (with_route ByDump 12) dump one_note ≡ sysex 0 dump ∷ (all_at 0 (select_of 0 0) ++ one_note) }
     ensures dump_of_nothing { dumped (with_route ByDump 12) dump (end_at 0 ∷ []) ≡ end_at 0 ∷ [] }
     ensures live { told_live (with_route ByLive 12) change one_note ≡ all_at 0 (select_of 0 0) ++ (sysex 0 (change 69) ∷ one_note) }
-    ensures bend { bent equal_table on_first one_note ≡ all_at 0 (ready 0) ++ one_note }
-    ensures bend_chord { bent just_table on_three chord ≡ all_at 0 (ready 0 ++ (NoteOn 0 60 64 ∷ ready 1 ++ (Bend 1 8099 ∷ NoteOn 1 64 64 ∷ ready 2 ++ (Bend 2 8205 ∷ NoteOn 2 67 64 ∷ [])))) ++ all_at 480 (NoteOff 0 60 64 ∷ NoteOff 1 64 64 ∷ NoteOff 2 67 64 ∷ []) }
-    ensures taken_over { bent equal_table on_first taken_over ≡ all_at 0 (Program 0 5 ∷ Control 0 7 80 ∷ ready 0 ++ NoteOn 0 69 64 ∷ []) ++ (all_at 480 (NoteOff 0 69 64 ∷ Program 0 0 ∷ Control 0 7 100 ∷ NoteOn 0 69 64 ∷ []) ++ at 960 (NoteOff 0 69 64) ∷ []) }
-    ensures reset { bent equal_table on_first reset_between ≡ all_at 0 (ready 0 ++ NoteOn 0 69 64 ∷ []) ++ (sysex 480 general_midi_on ∷ all_at 960 (ready 0 ++ NoteOn 0 69 64 ∷ []) ++ at 1440 (NoteOff 0 69 64) ∷ []) }
-    ensures wheel { bent equal_table on_first wheel ≡ all_at 0 (ready 0 ++ NoteOn 0 69 64 ∷ []) ++ (at 240 (Control 0 1 100) ∷ at 480 (Control 0 1 0) ∷ at 960 (NoteOff 0 69 64) ∷ []) }
-    ensures bent_source { bent equal_table on_first (all_at 0 (Bend 0 16383 ∷ NoteOn 0 69 64 ∷ [])) ≡ all_at 0 (ready 0 ++ (Bend 0 9557 ∷ NoteOn 0 69 64 ∷ [])) }
-    ensures fine_source { bent equal_table on_first (all_at 0 (Control 0 101 0 ∷ Control 0 100 1 ∷ Control 0 6 65 ∷ NoteOn 0 69 64 ∷ [])) ≡ all_at 0 (Control 0 101 0 ∷ Control 0 100 0 ∷ Control 0 6 12 ∷ registered 0 1 65 ++ NoteOn 0 69 64 ∷ []) }
-    ensures mpe { mpe_output mpe_options equal_table (record { part = 0; upper = false; members = 1 } ∷ []) (λ k p. 1) one_note ≡ all_at 0 (registered 0 6 1) ++ (at 0 (NoteOn 1 69 64) ∷ at 480 (NoteOff 1 69 64) ∷ end_at 480 ∷ []) }
 {}
 
-/// The zones of two parts with needs 9 and 5, and of one part where drums are kept, by example.
-pub fn zone_examples()
-    ensures two_parts { zones_for ((0, 9) ∷ (1, 5) ∷ []) ≡ record { part = 0; upper = false; members = 9 } ∷ record { part = 1; upper = true; members = 5 } ∷ [] }
-    ensures greater_need { zones_for ((0, 5) ∷ (1, 9) ∷ []) ≡ record { part = 1; upper = false; members = 9 } ∷ record { part = 0; upper = true; members = 5 } ∷ [] }
-    ensures lower_allowed { lower_allowed false (zones_for ((0, 9) ∷ (1, 5) ∷ [])) ≡ 9 }
-    ensures alone { lower_allowed false (zones_for ((0, 9) ∷ [])) ≡ 15 }
-    ensures with_drums { lower_allowed true (zones_for ((0, 9) ∷ [])) ≡ 8 }
-    ensures upper_members { members_from (record { part = 1; upper = true; members = 5 }) 0 5 ≡ 14 ∷ 13 ∷ 12 ∷ 11 ∷ 10 ∷ [] }
-    ensures lower_members { members_from (record { part = 0; upper = false; members = 2 }) 0 2 ≡ 1 ∷ 2 ∷ [] }
-{}
+/// The premises of the law of need can be met, and what it says of the first example: with a tail of 1 no valid assignment makes do
+/// with one channel.
+pub fn need_examples()
+    ensures rests { IsSound (resting 1) equal_table (one_after_other 480) }
+    ensures ports { IsSound bend_options equal_table two_ports }
+    ensures two_needed { (channel : ℕ → ℕ) → IsValidOn (resting 1) (is_part (resting 1)) equal_table (one_after_other 480) 0 channel → 2 ≤ size_on (is_part (resting 1)) (one_after_other 480) 0 channel }
+{
+    fault_laws();
+    fewest_channels();
+}
 
 /// The premises of the dump route's law can be met: a source with a reset between two notes, in equal temperament.
 pub fn dumpable_example()
     ensures dumpable { IsDumpable even (with_route ByDump 12) equal_table dump reset_between }
-    ensures same { PlaysTheSameMusic even (with_route ByDump 12) equal_table reset_between (dumped (with_route ByDump 12) dump reset_between) }
+    ensures same { PlayTheSame even (with_route ByDump 12) equal_table (plain_device (with_route ByDump 12)) reset_between (dumped (with_route ByDump 12) dump reset_between) }
 {
     exact();
+    fault_laws();
     dump_plays_the_same();
 }

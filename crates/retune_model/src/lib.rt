@@ -5,16 +5,22 @@ mod channels;
 mod dump;
 mod examples;
 mod faults;
+mod ports;
+mod rests;
 mod routes;
 
-pub use channels::{need_laws, position_laws, run_laws};
+pub use channels::{fewest_channels, need_laws, run_laws};
 pub use dump::dump_is_playable;
 pub use examples::{
-    bend_examples, dumpable_example, fault_examples, output_examples, pair_examples,
-    scale_examples, target_examples, zone_examples,
+    bend_examples, beyond_examples, dumpable_example, fault_examples, need_examples,
+    output_examples, pair_examples, port_examples, rest_examples, scale_examples, target_examples,
 };
-pub use faults::zone_entries_set_zones;
+pub use faults::{beyond_laws, fault_laws, sound_sources, zone_entries_set_zones};
+pub use ports::{port_laws, position_laws};
+pub use rests::{
+    elsewhere, held_laws, last_ends, part_alone, rests_are_runs, rests_as_written, without_rests,
+};
 pub use routes::{
     blocks_play_the_source, dump_plays_the_same, dump_plays_the_source, live_plays_the_same,
-    live_plays_the_source, playable_in_order,
+    live_plays_the_source, one_port_alone, playable_in_order, ports_apart,
 };

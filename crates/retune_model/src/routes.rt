@@ -8,15 +8,9 @@ ghost use Rattle.midi_model.specs.Receiver.{after};
 ghost use Rattle.retune_model.specs.Blocks.{Block, output, sources, Fits, all_events};
 ghost use Rattle.retune_model.specs.Routes.{Setup, Live, IsHarmless, IsHarmlessLive, dump_output, live_output, nothing_told};
 ghost use Rattle.mt_base.specs.Valid.{IsValidEvent};
-ghost use Rattle.midi_model.specs.FileText.{MidiFile};
-ghost use Rattle.midi_model.specs.Merged.{merged, IsPlayable};
+ghost use Rattle.midi_model.specs.Merged.{IsPlayable};
 ghost use Rattle.midi_model.specs.Order.{AreInOrder};
-ghost use Rattle.retune_model.specs.Table.{Scaling};
-ghost use Rattle.retune_model.specs.Options.{Options};
-ghost use Rattle.retune_model.specs.Faults.{Targets};
-ghost use Rattle.retune_model.specs.PlaysTheSame.{PlaysTheSameMusic, KeepsOtherEvents, KeepsDrums, HasSameShape, PlaysTheSame};
-ghost use Rattle.retune_model.specs.Dump.{dumped, told_live};
-ghost use Rattle.retune_model.specs.Dumpable.{IsDumpable, IsLivable};
+ghost use Rattle.retune_model.specs.OutputLaws.{PortsAreByTheirRules, DumpedPorts, ToldPorts, DumpedOnePort, ToldOnePort, DumpPlaysTheSame, DumpedFilePlaysTheSame, LivePlaysTheSame, ToldFilePlaysTheSame};
 ghost use Rattle.retune_model.specs.Plain.{ArePlain, IsTuned, IsTold, Reads, has_begun, told_after};
 
 use midi_model::music_laws;
@@ -46,14 +40,26 @@ pub fn live_plays_the_source()
     music_laws();
 }
 
-/// For a source without a fault and the dump of its table's targets, what the dump route writes plays the same: at every tick the
-/// same notes, each within half a step of 1/16384 semitone and a thousandth of a cent of its source pitch, and right from its
-/// beginning; all other events and kept drums are passed on.
+/// Where each block stands beside its event, each port of an output is what the port's rule makes of the port's events. So on dump and
+/// live it is the output for the port's events alone.
+pub fn ports_apart()
+    ensures blocks { PortsAreByTheirRules }
+    ensures dump { DumpedPorts }
+    ensures live { ToldPorts }
+{}
+
+/// Where no event names another port than the first, the output is the first port's.
+pub fn one_port_alone()
+    ensures dump { DumpedOnePort }
+    ensures live { ToldOnePort }
+{}
+
+/// For a source without a fault and the dump of its table's targets, what the dump route writes plays the same: on every port and at
+/// every tick the same notes, each within half a step of 1/16384 semitone and a thousandth of a cent of its source pitch, and right
+/// from its beginning; all other events and kept drums are passed on.
 pub fn dump_plays_the_same()
-    ensures music { (scaling : Scaling) (o : Options) (table : Targets) (bytes : List ℕ) (es : List MidiEvent) → IsDumpable scaling o table bytes es → PlaysTheSameMusic scaling o table es (dumped o bytes es) }
-    ensures others { (scaling : Scaling) (o : Options) (table : Targets) (bytes : List ℕ) (es : List MidiEvent) → IsDumpable scaling o table bytes es → KeepsOtherEvents o es (dumped o bytes es) }
-    ensures drums { (o : Options) (bytes : List ℕ) (es : List MidiEvent) → KeepsDrums o es (dumped o bytes es) }
-    ensures file { (scaling : Scaling) (o : Options) (table : Targets) (bytes : List ℕ) (source out : MidiFile) → HasSameShape source out → merged out ≡ dumped o bytes (merged source) → IsDumpable scaling o table bytes (merged source) → PlaysTheSame scaling o table source out }
+    ensures events { DumpPlaysTheSame }
+    ensures file { DumpedFilePlaysTheSame }
 {
     music_laws();
     sums();
@@ -63,10 +69,8 @@ pub fn dump_plays_the_same()
 
 /// The same for what the live route writes, with the bytes of a change of each key to its target.
 pub fn live_plays_the_same()
-    ensures music { (scaling : Scaling) (o : Options) (table : Targets) (change : ℕ → List ℕ) (es : List MidiEvent) → IsLivable scaling o table change es → PlaysTheSameMusic scaling o table es (told_live o change es) }
-    ensures others { (scaling : Scaling) (o : Options) (table : Targets) (change : ℕ → List ℕ) (es : List MidiEvent) → IsLivable scaling o table change es → KeepsOtherEvents o es (told_live o change es) }
-    ensures drums { (o : Options) (change : ℕ → List ℕ) (es : List MidiEvent) → KeepsDrums o es (told_live o change es) }
-    ensures file { (scaling : Scaling) (o : Options) (table : Targets) (change : ℕ → List ℕ) (source out : MidiFile) → HasSameShape source out → merged out ≡ told_live o change (merged source) → IsLivable scaling o table change (merged source) → PlaysTheSame scaling o table source out }
+    ensures events { LivePlaysTheSame }
+    ensures file { ToldFilePlaysTheSame }
 {
     music_laws();
     sums();

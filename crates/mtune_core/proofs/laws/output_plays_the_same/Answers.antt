@@ -9,4 +9,5 @@ returns c = plays_the_same (record {
   read_again = c.written_is_read.ensures.dumps;
   merged_again = c.distribution.ensures.merged_again;
   zones = c.zone_entries_set_zones.ensures;
+  in_turn = c.sound_sources.ensures.in_turn;
 })

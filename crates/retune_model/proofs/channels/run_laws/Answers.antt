@@ -1,5 +1,5 @@
 use Rattle.retune_model.specs.Pairs.{is_same_pair}
-use Rattle.retune_model.proofs.Places.{lowest_takes_free, all_used}
+use Rattle.retune_model.proofs.Places.{room, lowest_takes_free, all_used}
 use Rattle.retune_model.proofs.Placed.{notes_valid, notes_use}
 use Rattle.retune_model.proofs.SamePairs.{same_pairs}
 use Rattle.retune_model.proofs.channels.run_laws.Goals as goal
@@ -15,3 +15,6 @@ returns-clause-as_many c = notes_use is_same_pair same_pairs
 
 pub returns-clause-all_used : goal.returns-clause-all_used
 returns-clause-all_used c = all_used is_same_pair same_pairs
+
+pub returns-clause-room : goal.returns-clause-room
+returns-clause-room c at n row k p new few = let r = room is_same_pair same_pairs at n row k p new few in (r.0, r.1, r.2)

@@ -1,8 +1,8 @@
--- The output of the MPE route (MPE 1.0, in this project's profile): each of at most two parts has a zone. The part's messages go
--- to the master, each note to the member of its pair, which has the pair's bend.
+-- The output of the MPE route (MPE 1.0, in this project's profile): each of at most two parts of a port has a zone. The part's messages go
+-- to the master, each note to the member of its pair, which has the pair's bend. Each port has zones of its own, whose setup stands right
+-- before the port's first channel message and right behind each of its later resets.
 use Rattle.std.specs.Prelude.{ℕ, zero, suc, ◌+◌, ◌-◌, pos, ◌+ℤ◌, List, [], ◌∷◌, ◌++◌, Bool, true, false, nat_eq, nat_lt, if◌then◌else◌, Option, Some, None, map}
 use Rattle.std.specs.Set.{is_member}
-use Rattle.mt_base.specs.declared.pair.Pair.{Pair}
 use Rattle.mt_base.specs.declared.event.Msg.{Msg}
 use Rattle.mt_base.specs.declared.event.Msg.TheVariants.{NoteOn, NoteOff, KeyPressure, Control, Program, Pressure, Bend}
 use Rattle.mt_base.specs.Midi.{MidiWhat, Says, SysexOf, MetaOf, MidiEvent, channel_of}
@@ -11,14 +11,16 @@ use Rattle.midi_model.specs.Music.{Music, quiet, play, step, channel_at}
 use Rattle.midi_model.specs.Bring.{where_differs}
 use Rattle.retune_model.specs.Table.{BendTarget}
 use Rattle.retune_model.specs.Options.{Options}
+use Rattle.retune_model.specs.Ports.{Numbered}
 use Rattle.retune_model.specs.PlaysTheSame.{bend_target_if}
 use Rattle.retune_model.specs.Faults.{Targets, is_part}
+use Rattle.retune_model.specs.Pairs.{Pair, is_same_pair}
 use Rattle.retune_model.specs.Routes.{dump_next}
-use Rattle.retune_model.specs.Pairs.{is_same_pair, sounding, pairs_of}
-use Rattle.retune_model.specs.Choice.{bend_value}
-use Rattle.retune_model.specs.BendOutput.{pair_of, pressed_note, note_released, placed_at}
+use Rattle.retune_model.specs.PortOutput.{through_ports}
+use Rattle.channel_model.specs.Choice.{bend_value}
+use Rattle.channel_model.specs.BendOutput.{pair_with, pressed_note, note_released, placed_at, before_it, PortRuns, runs_on}
 
--- a zone: its part, whether it is the upper one, and how many members it has
+-- a zone: its part, a channel of the port, whether it is the upper one, and how many members it has
 pub record Zone : Type 0 where
   pub part : ℕ
   pub upper : Bool
@@ -82,13 +84,13 @@ zone_of part (z ∷ zs) = if nat_eq z.part part then Some z else zone_of part zs
 -- ---- what a message of a part causes
 
 -- a new note on its pair's member; where its run begins here, the member's bend comes first where it differs
-abbrev pub member_begins : Options → Targets → (before out : Music) → (Pair → ℕ) → (part velocity : ℕ) → Option BendTarget → List Msg
-member_begins o table before out place part velocity (Some t) =
-    let p = pair_of part t in
+abbrev pub member_begins : ℕ → Options → List Pair → (out : Music) → (Pair → ℕ) → (c velocity : ℕ) → Option BendTarget → List Msg
+member_begins z o there out place c velocity (Some t) =
+    let p = pair_with z c t in
     let bend = bend_value (pos 8192 +ℤ t.steps) in
-    (if is_member is_same_pair (pairs_of o table (sounding o before)) p then [] else where_differs (channel_at out (place p)).bend bend (Bend (place p) bend))
+    (if is_member is_same_pair there p then [] else where_differs (channel_at out (place p)).bend bend (Bend (place p) bend))
     ++ NoteOn (place p) t.key velocity ∷ []
-member_begins o table before out place part velocity None = []
+member_begins z o there out place c velocity None = []
 
 -- the same message on another channel
 abbrev pub on_channel : ℕ → Msg → Msg
@@ -100,23 +102,24 @@ on_channel d (Program c p) = Program d p
 on_channel d (Pressure c v) = Pressure d v
 on_channel d (Bend c v) = Bend d v
 
-abbrev pub zone_causes : Options → Targets → (before out : Music) → (was is : Pair → ℕ) → ℕ → ℕ → Msg → List Msg
-zone_causes o table before out was is master t (NoteOn c k (suc v)) = member_begins o table before out is c (suc v) (bend_target_if o.range (table k t))
-zone_causes o table before out was is master t (NoteOn c k zero) = note_released o table was (λ d j. NoteOn d j 0) c (pressed_note c k before.notes)
-zone_causes o table before out was is master t (NoteOff c k v) = note_released o table was (λ d j. NoteOff d j v) c (pressed_note c k before.notes)
-zone_causes o table before out was is master t m = on_channel master m ∷ []
+abbrev pub zone_causes : ℕ → Options → Targets → List Pair → (before out : Music) → (was is : Pair → ℕ) → ℕ → ℕ → Msg → List Msg
+zone_causes z o table there before out was is master t (NoteOn c k (suc v)) = member_begins z o there out is c (suc v) (bend_target_if o.range (table k t))
+zone_causes z o table there before out was is master t (NoteOn c k zero) = note_released z o table was (λ d j. NoteOn d j 0) c (pressed_note c k before.notes)
+zone_causes z o table there before out was is master t (NoteOff c k v) = note_released z o table was (λ d j. NoteOff d j v) c (pressed_note c k before.notes)
+zone_causes z o table there before out was is master t m = on_channel master m ∷ []
 
 -- a part without a note on has no zone, and causes nothing
-abbrev pub in_zone : Options → Targets → (before out : Music) → (was is : Pair → ℕ) → ℕ → Msg → Option Zone → List Msg
-in_zone o table before out was is t m (Some z) = zone_causes o table before out was is (master_of z) t m
-in_zone o table before out was is t m None = []
+abbrev pub in_zone : ℕ → Options → Targets → List Pair → (before out : Music) → (was is : Pair → ℕ) → ℕ → Msg → Option Zone → List Msg
+in_zone z o table there before out was is t m (Some zone) = zone_causes z o table there before out was is (master_of zone) t m
+in_zone z o table there before out was is t m None = []
 
 -- ---- the output
 
-abbrev pub mpe_causes : Options → Targets → List Zone → (before out : Music) → (was is : Pair → ℕ) → ℕ → MidiWhat → List MidiWhat
-mpe_causes o table zones before out was is t (Says m) = if is_part o (channel_of m) then map Says (in_zone o table before out was is t m (zone_of (channel_of m) zones)) else Says m ∷ []
-mpe_causes o table zones before out was is t (SysexOf lead bytes) = SysexOf lead bytes ∷ []
-mpe_causes o table zones before out was is t (MetaOf kind bytes) = MetaOf kind bytes ∷ []
+abbrev pub mpe_causes : ℕ → Options → Targets → List Zone → List Pair → (before out : Music) → (was is : Pair → ℕ) → ℕ → MidiWhat → List MidiWhat
+mpe_causes z o table zones there before out was is t (Says m) =
+    if is_part o (channel_of m) then map Says (in_zone z o table there before out was is t m (zone_of (channel_of m) zones)) else Says m ∷ []
+mpe_causes z o table zones there before out was is t (SysexOf lead bytes) = SysexOf lead bytes ∷ []
+mpe_causes z o table zones there before out was is t (MetaOf kind bytes) = MetaOf kind bytes ∷ []
 
 -- the setup stands right before the first channel message, and from then on right behind each reset
 abbrev pub setup_before : List MidiWhat → Bool → Doing → List MidiWhat
@@ -128,18 +131,31 @@ setup_behind setup true Resets = setup
 setup_behind setup _ _ = []
 
 -- with the output's music after the setup, where it stands here
-abbrev pub mpe_block : Options → Targets → List Zone → Bool → (before out : Music) → (was is : Pair → ℕ) → MidiEvent → List MidiEvent
-mpe_block o table zones begun before out was is e =
+abbrev pub mpe_block : ℕ → Options → Targets → List Zone → List Pair → Bool → (before out : Music) → (was is : Pair → ℕ) → MidiEvent → List MidiEvent
+mpe_block z o table zones there begun before out was is e =
     let setup = map Says (zones_setup o.range zones) in
     let first = placed_at e (setup_before setup begun (doing e.what)) in
-    first ++ placed_at e (mpe_causes o table zones before (play out first) was is e.tick e.what ++ setup_behind setup begun (doing e.what))
+    first ++ placed_at e (mpe_causes z o table zones there before (play out first) was is e.tick e.what ++ setup_behind setup begun (doing e.what))
 
-abbrev pub mpe_output_from : Options → Targets → List Zone → (ℕ → Pair → ℕ) → ℕ → Bool → (before out : Music) → List MidiEvent → List MidiEvent
-mpe_output_from o table zones channel k begun before out [] = []
-mpe_output_from o table zones channel k begun before out (e ∷ es) =
-    let block = mpe_block o table zones begun before out (channel k) (channel (suc k)) e in
-    block ++ mpe_output_from o table zones channel (suc k) (dump_next begun (doing e.what)) (step before e) (play out block) es
+-- what is kept in mind for a port: whether a channel message came, and the music of the source and of the output
+pub record Zoned : Type 0 where
+  pub begun : Bool
+  pub source : Music
+  pub out : Music
 
--- The output of the MPE route for a source of one port, with the zones of its parts.
-abbrev pub mpe_output : Options → Targets → List Zone → (ℕ → Pair → ℕ) → List MidiEvent → List MidiEvent
-mpe_output o table zones channel es = mpe_output_from o table zones channel 0 false quiet quiet es
+abbrev pub unzoned : Zoned
+unzoned = record { begun = false; source = quiet; out = quiet }
+
+abbrev pub zoned_block : Options → Targets → List Zone → PortRuns → Zoned → Numbered → List MidiEvent
+zoned_block o table zones runs s n =
+    mpe_block runs.number o table zones (runs.pairs (before_it n.position)) s.begun s.source s.out (runs.channel (before_it n.position)) (runs.channel n.position) n.event
+
+abbrev pub next_zoned : Options → Targets → List Zone → PortRuns → Zoned → Numbered → Zoned
+next_zoned o table zones runs s n =
+    record { begun = dump_next s.begun (doing n.event.what); source = step s.source n.event; out = play s.out (zoned_block o table zones runs s n) }
+
+-- The output of the MPE route: zones z are the zones of port z, channel z k p is the member that the run of p has there at position k.
+abbrev pub mpe_output : Options → Targets → (ℕ → List Zone) → (ℕ → ℕ → Pair → ℕ) → List MidiEvent → List MidiEvent
+mpe_output o table zones channel es = through_ports
+    (λ z s n. zoned_block o table (zones z) (runs_on o table es channel z) s n)
+    (λ z s n. next_zoned o table (zones z) (runs_on o table es channel z) s n) unzoned es

@@ -1,0 +1,5 @@
+pub mod Holding
+pub mod Free
+pub mod Histories
+pub mod Bending
+pub mod Zoning

@@ -1,0 +1,6 @@
+pub mod Choice
+pub mod Rows
+pub mod BendOutput
+pub mod MpeOutput
+pub mod Laws
+pub mod Examples

@@ -1,0 +1,10 @@
+//! Which channel each run of a pair gets, and what is written on it: definitions alone, with their laws.
+#![tactic(auto)]
+
+mod choice;
+mod examples;
+mod output;
+
+pub use choice::{best_is_free, free_laws, last_held};
+pub use examples::{bent_examples, choice_examples, mpe_examples, port_examples, zone_examples};
+pub use output::outputs_apart;
