@@ -1,8 +1,9 @@
 ghost use Rattle.std.specs.Prelude.{◌≡◌, ◌+◌, ◌*◌, ◌^◌, ◌<◌, ◌≤◌, ℕ};
 ghost use Rattle.log_bracket.specs.Digits.{IsQuotient, IsLogarithm};
 
-// The first 32 binary digits of the logarithm to the base 2 of start / 2 ^ 63, which is at least 1 and below 2, and of
-// each quotient of which start is the integer part. Each squaring doubles the logarithm and gives a digit.
+// The first 32 binary digits of the logarithm to the base 2 of start / 2 ^ 63, which is at least 1
+// and below 2, and of each quotient of which start is the integer part. Each squaring doubles the
+// logarithm and gives a digit.
 pub fn binary_digits(start: u64) -> u64
     requires { 2 ^ 63 ≤ start }
     ensures digits { (a b : ℕ) → IsQuotient start a b → IsLogarithm result a b }

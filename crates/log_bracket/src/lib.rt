@@ -10,6 +10,7 @@ ghost use Rattle.std.specs.Prelude.{◌≡◌, ◌+◌, ◌*◌, ◌^◌, ◌<�
 ghost use Rattle.mt_base.specs.Grains.{octave};
 ghost use Rattle.mt_base.specs.Pitch.{AtLeast, AtMost, ratio};
 ghost use Rattle.log_bracket.specs.Digits.{power};
+ghost use Rattle.log_bracket.specs.Points.{IsPoint};
 
 use crate::chain::binary_digits;
 use crate::scaled::{Scaled, Start};
@@ -31,8 +32,8 @@ pub fn log2_grains(a: u64, b: u64) -> Bracket
     ensures order { result.lo.0 ≤ℤ result.hi.0 }
     ensures lowest { neg_ℤ (pos (2 ^ 52)) ≤ℤ result.lo.0 }
     ensures highest { result.hi.0 ≤ℤ pos (2 ^ 52) }
-    ensures exact_up { (j : ℕ) → a ≡ 2 ^ j * b → (result.lo.0 ≡ pos (j * octave)) × (result.hi.0 ≡ pos (j * octave)) }
-    ensures exact_down { (j : ℕ) → b ≡ 2 ^ j * a → (result.lo.0 ≡ neg_ℤ (pos (j * octave))) × (result.hi.0 ≡ neg_ℤ (pos (j * octave))) }
+    ensures exact_up { (j : ℕ) → a ≡ 2 ^ j * b → IsPoint result (pos (j * octave)) }
+    ensures exact_down { (j : ℕ) → b ≡ 2 ^ j * a → IsPoint result (neg_ℤ (pos (j * octave))) }
 {
     laws::powers();
     laws::octaves();

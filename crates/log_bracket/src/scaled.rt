@@ -22,7 +22,8 @@ impl Scaled {
     }
 }
 
-// The quotient of two mantissas in units of 2 ^ -63, cut down, after the first was doubled where it is the lesser one.
+// The quotient of two mantissas in units of 2 ^ -63, cut down, after the first was doubled where it
+// is the lesser one.
 #[derive(Clone, Copy, Debug)]
 pub struct Start {
     pub mantissa: u64,

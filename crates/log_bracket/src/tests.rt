@@ -1,6 +1,7 @@
 use super::*;
 
-// What tools/log2_brackets.py prints: a, b and the whole numbers of grains just below and just above the logarithm.
+// What tools/log2_brackets.py prints: a, b and the whole numbers of grains just below and just
+// above the logarithm.
 #[test]
 fn brackets_hold_outside_values(rt: HostRuntime) {
     let rows: [(u64, u64, i128, i128); 31] = [

@@ -1,5 +1,5 @@
-//! Messages of the MIDI Tuning Standard 1.0 and the resets of a synthesizer: written and read. The bytes
-//! of a message are those after F0, with F7 at the end. Nothing here takes memory.
+//! Messages of the MIDI Tuning Standard 1.0 and the resets of a synthesizer: written and read. The
+//! bytes of a message are those after F0, with F7 at the end. Nothing here takes memory.
 #![tactic(auto)]
 
 mod laws;

@@ -98,8 +98,8 @@ fn spells(pattern: &[Place], bytes: &[u8]) -> bool
     bytes.len() == pattern.len() && begins(pattern, bytes)
 }
 
-/// Whether a message resets the synthesizer: General MIDI on or off, General MIDI 2 on, of any device, or
-/// the resets of GS and XG.
+/// Whether a message resets the synthesizer: General MIDI on or off, General MIDI 2 on, of any
+/// device, or the resets of GS and XG.
 pub fn is_reset(bytes: &[u8]) -> bool
     ensures { result ≡ is_reset bytes.now }
 {

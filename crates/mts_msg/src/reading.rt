@@ -8,8 +8,8 @@ use crate::pattern::{CHANGE, DUMP, begins};
 use crate::writing::checksum;
 use arrayvec::ArrayVec;
 
-/// A tuning message that was read. Values are in steps of 1/16384 semitone above key 0; where there is
-/// none, the key stays as it was.
+/// A tuning message that was read. Values are in steps of 1/16384 semitone above key 0; where there
+/// is none, the key stays as it was.
 #[derive(Drop)]
 pub enum Tuning {
     /// Each key of a program.
@@ -98,9 +98,9 @@ fn is_change(bytes: &[u8]) -> bool
         && bytes[bytes.len() - 1] == 0xf7
 }
 
-/// The tuning message that the bytes say: a bulk dump or a change of some keys, of any device, in full
-/// length, all bytes but the last at most 127, and for a dump with the right checksum. `None` where they
-/// are neither.
+/// The tuning message that the bytes say: a bulk dump or a change of some keys, of any device, in
+/// full length, all bytes but the last at most 127, and for a dump with the right checksum. `None`
+/// where they are neither.
 pub fn read_tuning(bytes: &[u8]) -> Option<Tuning>
     ensures read { option_map retune_of result ≡ tuning_of bytes.now }
     ensures table { IfSome result (λ t. is_table t ≡ is_dump bytes.now) }

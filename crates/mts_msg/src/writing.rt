@@ -64,8 +64,8 @@ fn dump_head(program: u8) -> ArrayVec<u8, 407>
     out
 }
 
-/// A bulk dump of a program, to all devices: a value for each key, in steps of 1/16384 semitone above key
-/// 0, at most 2,097,150; `None` leaves the key as it was. The program is at most 127.
+/// A bulk dump of a program, to all devices: a value for each key, in steps of 1/16384 semitone
+/// above key 0, at most 2,097,150; `None` leaves the key as it was. The program is at most 127.
 #[tactic(auto, using(crate::proofs::Lengths::values_length))]
 pub fn dump(program: u8, values: &[Option<u32>; 128]) -> ArrayVec<u8, 407>
     requires program { program ≤ 127 }
@@ -81,8 +81,8 @@ pub fn dump(program: u8, values: &[Option<u32>; 128]) -> ArrayVec<u8, 407>
     out
 }
 
-/// A change of one key of a program, in real time, to all devices: its new value in steps of 1/16384
-/// semitone above key 0, at most 2,097,150. Program and key are at most 127.
+/// A change of one key of a program, in real time, to all devices: its new value in steps of
+/// 1/16384 semitone above key 0, at most 2,097,150. Program and key are at most 127.
 pub fn note_change(program: u8, key: u8, value: u32) -> ArrayVec<u8, 11>
     requires program { program ≤ 127 }
     requires key { key ≤ 127 }
@@ -105,7 +105,8 @@ pub fn note_change(program: u8, key: u8, value: u32) -> ArrayVec<u8, 11>
     out
 }
 
-/// The messages that select a tuning program, at most 127, on a channel, and no parameter afterwards.
+/// The messages that select a tuning program, at most 127, on a channel, and no parameter
+/// afterwards.
 pub fn select(channel: Channel, program: u8) -> ArrayVec<Msg, 5>
     requires { program ≤ 127 }
     ensures { result.items ≡ select_of channel program }

@@ -1,3 +1,4 @@
 pub mod Masks
 pub mod Counts
 pub mod Resets
+pub mod Differences

@@ -2,9 +2,9 @@
 //! from these.
 #![tactic(auto)]
 
-ghost use Rattle.std.specs.Prelude.{◌≡◌, ◌<◌, ◌≤◌, ◌≢◌, ◌+◌, length, slice_index, slice_set, IfSome, IfNone, ℕ, nat_eq, if◌then◌else◌};
+ghost use Rattle.std.specs.Prelude.{◌≡◌, ◌<◌, ◌≤◌, ◌+◌, ◌↔◌, IsTrue, length, slice_index, slice_set, IfSome, IfNone, ℕ, nat_eq, if◌then◌else◌};
 ghost use Rattle.std.specs.Int.{bit_at};
-ghost use Rattle.tab.specs.Entries.{away};
+ghost use Rattle.tab.specs.Entries.{Looked, SameBetween, DifferAt, differing};
 
 use std::marker::Model;
 
@@ -37,7 +37,8 @@ impl<const N: usize> Model for Tab<N> {
 
     ghost view = { λ t. record { defaults = t.base; items = t.items } };
 
-    ghost invariant = { λ t. (N ≤ 128) × ((i : ℕ) → i < N → bit_at t.mask i ≡ differs (slice_index t.base i) (slice_index t.items i)) };
+    ghost invariant = { λ t. (N ≤ 128)
+        × ((i : ℕ) → i < N → bit_at t.mask i ≡ differs (slice_index t.base i) (slice_index t.items i)) };
 }
 
 impl<const N: usize> Tab<N> {
@@ -96,9 +97,9 @@ impl<const N: usize> Tab<N> {
         requires bases { self.now.defaults ≡ other.now.defaults }
         requires from { from ≤ N }
         ensures place { IfSome result (λ i. (from ≤ i) × (i < N)) }
-        ensures differs { IfSome result (λ i. slice_index self.now.items i ≢ slice_index other.now.items i) }
-        ensures least { IfSome result (λ i. (k : ℕ) → from ≤ k → k < i → slice_index self.now.items k ≡ slice_index other.now.items k) }
-        ensures none { IfNone result ((k : ℕ) → from ≤ k → k < N → slice_index self.now.items k ≡ slice_index other.now.items k) }
+        ensures differs { IfSome result (λ i. DifferAt i self.now.items other.now.items) }
+        ensures least { IfSome result (λ i. SameBetween from i self.now.items other.now.items) }
+        ensures none { IfNone result (SameBetween from N self.now.items other.now.items) }
     {
         self.find_difference(other, from).place
     }
@@ -109,11 +110,11 @@ impl<const N: usize> Tab<N> {
         requires bases { self.now.defaults ≡ other.now.defaults }
         requires from { from ≤ N }
         ensures place { IfSome result.place (λ i. (from ≤ i) × (i < N)) }
-        ensures differs { IfSome result.place (λ i. slice_index self.now.items i ≢ slice_index other.now.items i) }
-        ensures least { IfSome result.place (λ i. (k : ℕ) → from ≤ k → k < i → slice_index self.now.items k ≡ slice_index other.now.items k) }
-        ensures none { IfNone result.place ((k : ℕ) → from ≤ k → k < N → slice_index self.now.items k ≡ slice_index other.now.items k) }
-        ensures looked { IfSome result.place (λ i. away self.now.items other.now from + result.looked ≡ away self.now.items other.now (i + 1)) }
-        ensures looked_all { IfNone result.place (away self.now.items other.now from + result.looked ≡ away self.now.items other.now N) }
+        ensures differs { IfSome result.place (λ i. DifferAt i self.now.items other.now.items) }
+        ensures least { IfSome result.place (λ i. SameBetween from i self.now.items other.now.items) }
+        ensures none { IfNone result.place (SameBetween from N self.now.items other.now.items) }
+        ensures looked { IfSome result.place (λ i. Looked self.now.items other.now from (i + 1) result.looked) }
+        ensures looked_all { IfNone result.place (Looked self.now.items other.now from N result.looked) }
     {
         let both = self.mask | other.mask;
         let mut looked = 0;
@@ -142,10 +143,35 @@ impl<const N: usize> Tab<N> {
         }
     }
 
+    /// Whether two tables over the same defaults hold the same entries.
+    pub fn is_equal(&self, other: &Tab<N>) -> bool
+        requires { self.now.defaults ≡ other.now.defaults }
+        ensures { IsTrue result ↔ (self.now.items ≡ other.now.items) }
+    {
+        let _lengths = (self.len(), other.len());
+        self.next_difference(other, 0).is_none()
+    }
+
+    /// At how many places two tables over the same defaults differ.
+    pub fn count_differences(&self, other: &Tab<N>) -> usize
+        requires { self.now.defaults ≡ other.now.defaults }
+        ensures { result ≡ differing self.now.items other.now.items N }
+    {
+        let mut count = 0;
+        let mut from = 0;
+        while let Some(place) = self.next_difference(other, from) {
+            count += 1;
+            from = place + 1;
+        }
+        count
+    }
+
     /// Gives the entries of these places their defaults: bit i of the mask stands for place i. It touches
     /// only entries that differ.
     pub fn reset(&mut self, which: u128)
-        ensures items { (i : ℕ) → i < N → slice_index self.new.items i ≡ (if nat_eq (bit_at which i) 1 then slice_index self.old.defaults i else slice_index self.old.items i) }
+        ensures items { (i : ℕ) → i < N → slice_index self.new.items i
+            ≡ (if nat_eq (bit_at which i) 1 then slice_index self.old.defaults i
+            else slice_index self.old.items i) }
         ensures length { length self.new.items ≡ N }
         ensures defaults { self.new.defaults ≡ self.old.defaults }
     {

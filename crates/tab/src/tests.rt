@@ -23,7 +23,15 @@ fn a_table_of_keys_and_one_of_controllers(rt: HostRuntime) {
     assert_eq!(rt; right.get(1), 10);
     assert_eq!(rt; left.next_difference(&right, 0), Some(7));
     assert_eq!(rt; left.next_difference(&right, 8), None);
+    assert!(rt; !left.is_equal(&right));
+    right.set(119, 0);
+    right.set(0, 65);
+    assert_eq!(rt; left.count_differences(&right), 3);
+    right.set(119, 127);
+    right.set(0, 64);
+    assert_eq!(rt; left.count_differences(&right), 1);
     left.apply(&right);
+    assert!(rt; left.is_equal(&right));
     assert_eq!(rt; left.get(7), 100);
     assert_eq!(rt; left.get(119), 127);
     assert_eq!(rt; left.next_difference(&right, 0), None);
