@@ -22,6 +22,7 @@ pub mod Played
 pub mod Bring
 pub mod Order
 pub mod OrderLaws
+pub mod ReceiverLaws
 pub mod Writing
 pub mod WritingLaws
 pub mod SizeLaws

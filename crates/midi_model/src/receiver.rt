@@ -1,19 +1,16 @@
 //! What the receiver does, by worked examples and by laws. The functions do nothing: their contracts are what is stated.
 
-ghost use Rattle.std.specs.Prelude.{◌≡◌, ◌≢◌, ◌++◌, ◌+◌, ◌*◌, ◌<◌, ◌≤◌, ℕ, Bool, true, false, List, [], ◌∷◌, map, pos, Some, None, length};
-ghost use Rattle.std.specs.List.{AllByRecursion};
-ghost use Rattle.mt_base.specs.Midi.{MidiEvent};
+ghost use Rattle.std.specs.Prelude.{◌≡◌, ◌++◌, ◌+◌, ◌*◌, ℕ, true, [], ◌∷◌, pos, replicate, Some, None};
 ghost use Rattle.mt_base.specs.declared.event.Msg.TheVariants.{NoteOn, NoteOff, KeyPressure, Control, Program, Pressure, Bend};
-ghost use Rattle.midi_model.specs.Sysex.{Resets, doing, is_dump, is_change, is_reset};
-ghost use Rattle.midi_model.specs.Channel.{default_channel, nothing_selected};
-ghost use Rattle.midi_model.specs.Zones.{AreApart, no_zones};
-ghost use Rattle.midi_model.specs.Notes.{sounding_on};
-ghost use Rattle.midi_model.specs.Music.{Music, quiet, play, channel_at};
+ghost use Rattle.midi_model.specs.Sysex.{is_dump};
+ghost use Rattle.midi_model.specs.Channel.{default_channel, default_state};
+ghost use Rattle.midi_model.specs.Zones.{no_zones};
+ghost use Rattle.midi_model.specs.Music.{quiet, play, channel_at};
 ghost use Rattle.midi_model.specs.Tuning.{selected_of};
-ghost use Rattle.midi_model.specs.Receiver.{Receiver, receive, receive_all, after};
+ghost use Rattle.midi_model.specs.Receiver.{after};
+ghost use Rattle.midi_model.specs.ReceiverLaws.{OneNoteSoundsOnAKey, ZonesStayApart, NotesEndInTime, MusicIsAlone, TuningIsKept, MusicIsAloneAlways};
 ghost use Rattle.midi_model.specs.Bring.{bring, apply_all};
-ghost use Rattle.midi_model.specs.Order.{AreInOrder, EndsInTime, is_about_tuning};
-ghost use Rattle.midi_model.specs.Examples.{at, all_at, sysex, sysex_with, ends, releases, programs, pressures, pitches, controller_at, state_of, bend_ranges_of, zones_of, zones, registered, two_channels, struck_again, struck_while_down, sostenuto_down, sostenuto_up, released_by_zero, reset_between, wheel_set, wheel_reset, all_set, all_left, zone, on_member, stirred, then_sent, was_reset, dump, change, tuned, voiced, ranged_only, fine_tuned};
+ghost use Rattle.midi_model.specs.Examples.{at, all_at, sysex, sysex_with, ends, releases, programs, pressures, pitches, controller_at, state_of, state_after, bend_ranges_of, zones_of, zones, registered, parameter_at_65, two_channels, struck_again, struck_while_down, sostenuto_down, sostenuto_up, released_by_zero, reset_between, wheel_set, wheel_reset, all_set, all_left, zone, on_member, stirred, ResetsAll, ChangesNothing, dump, change, tuned, tuned_with, voiced, ranged_only, fine_tuned};
 
 /// Pedals and notes that are struck again, by example: the tick at which each note ended, in the order of note ons.
 pub fn pedal_examples()
@@ -30,21 +27,22 @@ pub fn pedal_examples()
 /// The five resets, with other device numbers and what only looks like one, by example.
 pub fn reset_examples()
     ensures between { ends reset_between ≡ Some 480 ∷ Some 1440 ∷ [] }
-    ensures general_midi_on { then_sent (0x7e ∷ 0x05 ∷ 0x09 ∷ 0x01 ∷ 0xf7 ∷ []) ≡ was_reset }
-    ensures general_midi_on_all { then_sent (0x7e ∷ 0x7f ∷ 0x09 ∷ 0x01 ∷ 0xf7 ∷ []) ≡ was_reset }
-    ensures general_midi_off { then_sent (0x7e ∷ 0x05 ∷ 0x09 ∷ 0x02 ∷ 0xf7 ∷ []) ≡ was_reset }
-    ensures general_midi_off_all { then_sent (0x7e ∷ 0x7f ∷ 0x09 ∷ 0x02 ∷ 0xf7 ∷ []) ≡ was_reset }
-    ensures general_midi_2_on { then_sent (0x7e ∷ 0x05 ∷ 0x09 ∷ 0x03 ∷ 0xf7 ∷ []) ≡ was_reset }
-    ensures general_midi_2_on_all { then_sent (0x7e ∷ 0x7f ∷ 0x09 ∷ 0x03 ∷ 0xf7 ∷ []) ≡ was_reset }
-    ensures roland { then_sent (0x41 ∷ 0x10 ∷ 0x42 ∷ 0x12 ∷ 0x40 ∷ 0x00 ∷ 0x7f ∷ 0x00 ∷ 0x41 ∷ 0xf7 ∷ []) ≡ was_reset }
-    ensures yamaha { then_sent (0x43 ∷ 0x10 ∷ 0x4c ∷ 0x00 ∷ 0x00 ∷ 0x7e ∷ 0x00 ∷ 0xf7 ∷ []) ≡ was_reset }
-    ensures yamaha_other { then_sent (0x43 ∷ 0x1f ∷ 0x4c ∷ 0x00 ∷ 0x00 ∷ 0x7e ∷ 0x00 ∷ 0xf7 ∷ []) ≡ was_reset }
-    ensures next_number { then_sent (0x7e ∷ 0x05 ∷ 0x09 ∷ 0x04 ∷ 0xf7 ∷ []) ≡ play quiet stirred }
-    ensures without_end { then_sent (0x7e ∷ 0x05 ∷ 0x09 ∷ 0x01 ∷ []) ≡ play quiet stirred }
-    ensures a_byte_more { then_sent (0x7e ∷ 0x05 ∷ 0x09 ∷ 0x01 ∷ 0x00 ∷ 0xf7 ∷ []) ≡ play quiet stirred }
-    ensures another_device { then_sent (0x41 ∷ 0x11 ∷ 0x42 ∷ 0x12 ∷ 0x40 ∷ 0x00 ∷ 0x7f ∷ 0x00 ∷ 0x41 ∷ 0xf7 ∷ []) ≡ play quiet stirred }
-    ensures another_half { then_sent (0x43 ∷ 0x20 ∷ 0x4c ∷ 0x00 ∷ 0x00 ∷ 0x7e ∷ 0x00 ∷ 0xf7 ∷ []) ≡ play quiet stirred }
-    ensures another_lead { play quiet (stirred ++ sysex_with 0xf7 9 (0x7e ∷ 0x05 ∷ 0x09 ∷ 0x01 ∷ 0xf7 ∷ []) ∷ []) ≡ play quiet stirred }
+    ensures general_midi_on { ResetsAll (0x7e ∷ 0x05 ∷ 0x09 ∷ 0x01 ∷ 0xf7 ∷ []) }
+    ensures general_midi_on_all { ResetsAll (0x7e ∷ 0x7f ∷ 0x09 ∷ 0x01 ∷ 0xf7 ∷ []) }
+    ensures general_midi_off { ResetsAll (0x7e ∷ 0x05 ∷ 0x09 ∷ 0x02 ∷ 0xf7 ∷ []) }
+    ensures general_midi_off_all { ResetsAll (0x7e ∷ 0x7f ∷ 0x09 ∷ 0x02 ∷ 0xf7 ∷ []) }
+    ensures general_midi_2_on { ResetsAll (0x7e ∷ 0x05 ∷ 0x09 ∷ 0x03 ∷ 0xf7 ∷ []) }
+    ensures general_midi_2_on_all { ResetsAll (0x7e ∷ 0x7f ∷ 0x09 ∷ 0x03 ∷ 0xf7 ∷ []) }
+    ensures roland { ResetsAll (0x41 ∷ 0x10 ∷ 0x42 ∷ 0x12 ∷ 0x40 ∷ 0x00 ∷ 0x7f ∷ 0x00 ∷ 0x41 ∷ 0xf7 ∷ []) }
+    ensures yamaha { ResetsAll (0x43 ∷ 0x10 ∷ 0x4c ∷ 0x00 ∷ 0x00 ∷ 0x7e ∷ 0x00 ∷ 0xf7 ∷ []) }
+    ensures yamaha_other { ResetsAll (0x43 ∷ 0x1f ∷ 0x4c ∷ 0x00 ∷ 0x00 ∷ 0x7e ∷ 0x00 ∷ 0xf7 ∷ []) }
+    ensures next_number { ChangesNothing (0x7e ∷ 0x05 ∷ 0x09 ∷ 0x04 ∷ 0xf7 ∷ []) }
+    ensures without_end { ChangesNothing (0x7e ∷ 0x05 ∷ 0x09 ∷ 0x01 ∷ []) }
+    ensures a_byte_more { ChangesNothing (0x7e ∷ 0x05 ∷ 0x09 ∷ 0x01 ∷ 0x00 ∷ 0xf7 ∷ []) }
+    ensures another_device { ChangesNothing (0x41 ∷ 0x11 ∷ 0x42 ∷ 0x12 ∷ 0x40 ∷ 0x00 ∷ 0x7f ∷ 0x00 ∷ 0x41 ∷ 0xf7 ∷ []) }
+    ensures another_half { ChangesNothing (0x43 ∷ 0x20 ∷ 0x4c ∷ 0x00 ∷ 0x00 ∷ 0x7e ∷ 0x00 ∷ 0xf7 ∷ []) }
+    ensures another_lead { play quiet (stirred ++ sysex_with 0xf7 9 (0x7e ∷ 0x05 ∷ 0x09 ∷ 0x01 ∷ 0xf7 ∷ []) ∷ [])
+        ≡ play quiet stirred }
 {}
 
 /// Controllers and what reset all controllers, 121, clears, by example.
@@ -57,7 +55,7 @@ pub fn controller_examples()
     ensures clears { state_of 0 (all_set ++ at 0 (Control 0 121 0) ∷ []) ≡ state_of 0 all_left }
     ensures releases_captured { ends (sostenuto_down ++ at 1200 (Control 0 121 0) ∷ []) ≡ Some 1200 ∷ Some 960 ∷ [] }
     ensures key_pressed { pressures stirred ≡ 5 ∷ [] }
-    ensures key_not_sounding { pressures (at 0 (KeyPressure 0 60 5) ∷ at 0 (NoteOn 0 60 64) ∷ []) ≡ 0 ∷ [] }
+    ensures key_not_sounding { pressures (all_at 0 (KeyPressure 0 60 5 ∷ NoteOn 0 60 64 ∷ [])) ≡ 0 ∷ [] }
 {}
 
 /// Zones, by example: the numbers of members of the lower and of the upper one, and what a note on a member takes from its master.
@@ -68,11 +66,12 @@ pub fn zone_examples()
     ensures at_most_fifteen { zones_of (zone 15 1 ++ zone 0 99) ≡ zones 15 0 }
     ensures off { zones_of (zone 0 3 ++ (zone 15 4 ++ zone 0 0)) ≡ zones 0 4 }
     ensures elsewhere { zones_of (zone 4 3) ≡ no_zones }
-    ensures ranges { bend_ranges_of (zone 15 4) ≡ 2 ∷ 2 ∷ 2 ∷ 2 ∷ 2 ∷ 2 ∷ 2 ∷ 2 ∷ 2 ∷ 2 ∷ 2 ∷ 48 ∷ 48 ∷ 48 ∷ 48 ∷ 2 ∷ [] }
+    ensures ranges { bend_ranges_of (zone 15 4) ≡ replicate 11 2 ++ replicate 4 48 ++ 2 ∷ [] }
     ensures ranges_kept { bend_ranges_of (zone 15 4 ++ zone 15 0) ≡ bend_ranges_of (zone 15 4) }
-    ensures held_by_master { ends (on_member ++ at 5 (NoteOff 1 60 64) ∷ at 7 (Control 1 64 0) ∷ at 9 (Control 0 64 0) ∷ []) ≡ Some 9 ∷ [] }
+    ensures held_by_master { ends (on_member ++ at 5 (NoteOff 1 60 64) ∷ at 7 (Control 1 64 0) ∷ at 9 (Control 0 64 0) ∷ [])
+        ≡ Some 9 ∷ [] }
     ensures ended_by_master { ends (on_member ++ at 5 (Control 0 120 0) ∷ []) ≡ Some 5 ∷ [] }
-    ensures let_go_when_off { ends (on_member ++ (at 5 (NoteOff 1 60 64) ∷ [] ++ all_at 7 (registered 0 6 0))) ≡ Some 7 ∷ [] }
+    ensures let_go_when_off { ends (on_member ++ (at 5 (NoteOff 1 60 64) ∷ all_at 7 (registered 0 6 0))) ≡ Some 7 ∷ [] }
     ensures program { programs on_member ≡ 9 ∷ [] }
     ensures pitch { pitches on_member ≡ pos (60 * 3200000000000 + 1 * 3906250 * 4800 + 1000 * 3906250 * 200) ∷ [] }
 {}
@@ -82,25 +81,30 @@ pub fn tuning_examples()
     ensures untuned { pitches (at 0 (NoteOn 0 69 64) ∷ []) ≡ pos 220800000000000 ∷ [] }
     ensures dump { is_dump dump ≡ true }
     ensures dumped { pitches tuned ≡ pos 220800000000000 ∷ [] }
-    ensures highest { pitches (tuned ++ sysex 0 (change 0x7f 0x7f 0x7e) ∷ []) ≡ pos (195312500 * 2097150) ∷ [] }
-    ensures no_change { pitches (tuned ++ sysex 0 (change 0x7f 0x7f 0x7f) ∷ []) ≡ pos 220800000000000 ∷ [] }
-    ensures a_step_up { pitches (tuned ++ sysex 0 (change 0x45 0x00 0x01) ∷ []) ≡ pos (220800000000000 + 195312500) ∷ [] }
+    ensures highest { pitches (tuned_with 0x7f 0x7f 0x7e) ≡ pos (195312500 * 2097150) ∷ [] }
+    ensures no_change { pitches (tuned_with 0x7f 0x7f 0x7f) ≡ pos 220800000000000 ∷ [] }
+    ensures a_step_up { pitches (tuned_with 0x45 0x00 0x01) ≡ pos (220800000000000 + 195312500) ∷ [] }
     ensures not_selected { pitches (sysex 0 (change 0x7f 0x7f 0x7e) ∷ at 0 (NoteOn 0 69 64) ∷ []) ≡ pos 220800000000000 ∷ [] }
     ensures another_lead { pitches (tuned ++ sysex_with 0xf7 0 (change 0x7f 0x7f 0x7e) ∷ []) ≡ pos 220800000000000 ∷ [] }
-    ensures coarse { pitches (all_at 0 (registered 0 2 65 ++ NoteOn 0 69 64 ∷ [])) ≡ pos (220800000000000 + 3200000000000) ∷ [] }
-    ensures fine { pitches (all_at 0 (registered 0 1 65 ++ NoteOn 0 69 64 ∷ [])) ≡ pos (220800000000000 + 128 * 390625000) ∷ [] }
+    ensures coarse { pitches (parameter_at_65 2) ≡ pos (220800000000000 + 3200000000000) ∷ [] }
+    ensures fine { pitches (parameter_at_65 1) ≡ pos (220800000000000 + 128 * 390625000) ∷ [] }
 {}
 
 /// Bringing a channel from one state to another, by example.
 pub fn bring_examples()
-    ensures voice_and_range { bring 0 (state_of 0 []) voiced ≡ Program 0 5 ∷ Control 0 7 80 ∷ registered 0 0 12 }
+    ensures voice_and_range { bring 0 default_state voiced ≡ Program 0 5 ∷ Control 0 7 80 ∷ registered 0 0 12 }
     ensures back { bring 0 voiced ranged_only ≡ Program 0 0 ∷ Control 0 7 100 ∷ [] }
-    ensures fine_tuned { bring 0 (state_of 0 []) fine_tuned ≡ Control 0 101 0 ∷ Control 0 100 0 ∷ Control 0 6 12 ∷ registered 0 1 65 }
-    ensures reached { apply_all (state_of 0 []) (bring 0 (state_of 0 []) fine_tuned) ≡ fine_tuned }
+    ensures fine_tuned { bring 0 default_state fine_tuned
+        ≡ Control 0 101 0 ∷ Control 0 100 0 ∷ Control 0 6 12 ∷ registered 0 1 65 }
+    ensures reached { apply_all default_state (bring 0 default_state fine_tuned) ≡ fine_tuned }
     ensures nothing_to_do { bring 0 fine_tuned fine_tuned ≡ [] }
-    ensures bank { bring 2 (state_of 2 []) (state_of 2 (all_at 0 (Control 2 0 3 ∷ Program 2 5 ∷ Control 2 0 4 ∷ []))) ≡ Control 2 0 3 ∷ Program 2 5 ∷ Control 2 0 4 ∷ [] }
-    ensures defaults_first { bring 0 (state_of 0 (all_at 0 (Control 0 101 1 ∷ Control 0 100 1 ∷ Control 0 38 1 ∷ []))) fine_tuned ≡ (Control 0 101 1 ∷ Control 0 100 1 ∷ Control 0 38 0 ∷ []) ++ bring 0 (state_of 0 []) fine_tuned }
-    ensures touch { bring 1 (state_of 1 []) (state_of 1 (all_at 0 (Pressure 1 7 ∷ Bend 1 0 ∷ NoteOn 1 60 1 ∷ KeyPressure 1 60 9 ∷ []))) ≡ Pressure 1 7 ∷ Bend 1 0 ∷ KeyPressure 1 60 9 ∷ [] }
+    ensures bank { bring 2 default_state (state_after 2 (Control 2 0 3 ∷ Program 2 5 ∷ Control 2 0 4 ∷ []))
+        ≡ Control 2 0 3 ∷ Program 2 5 ∷ Control 2 0 4 ∷ [] }
+    ensures defaults_first { bring 0 (state_after 0 (Control 0 101 1 ∷ Control 0 100 1 ∷ Control 0 38 1 ∷ [])) fine_tuned
+        ≡ (Control 0 101 1 ∷ Control 0 100 1 ∷ Control 0 38 0 ∷ []) ++ bring 0 default_state fine_tuned }
+    ensures touch { bring 1 default_state
+        (state_after 1 (Pressure 1 7 ∷ Bend 1 0 ∷ NoteOn 1 60 1 ∷ KeyPressure 1 60 9 ∷ []))
+        ≡ Pressure 1 7 ∷ Bend 1 0 ∷ KeyPressure 1 60 9 ∷ [] }
 {}
 
 /// Before any event nothing sounds, every channel has its defaults, and nothing is tuned.
@@ -115,16 +119,16 @@ pub fn silent_at_first()
 /// What holds after any list of events: at most one note sounds on a key of a channel, and the zones share no channel.
 /// Where the events come in the order of their ticks, no note ends before it began.
 pub fn receiver_laws()
-    ensures one_note { (es : List MidiEvent) (c k : ℕ) → sounding_on c k (after es).music.notes ≤ 1 }
-    ensures zones_apart { (es : List MidiEvent) → AreApart (after es).music.zones }
-    ensures ends_in_time { (es : List MidiEvent) → AreInOrder 0 es → AllByRecursion EndsInTime (after es).music.notes }
+    ensures one_note { OneNoteSoundsOnAKey }
+    ensures zones_apart { ZonesStayApart }
+    ensures ends_in_time { NotesEndInTime }
 {}
 
 /// The music never depends on the tuning. So two receivers that differ in their tunings and selected tuning programs alone still
 /// do after any event that is no tuning message and no selection of a program, and where it is no reset, each tuning is then as
 /// it was.
 pub fn music_hears_no_tuning()
-    ensures alone { (r s : Receiver) (e : MidiEvent) → r.music ≡ s.music → is_about_tuning r.music (doing e.what) ≡ false → (receive r e).music ≡ (receive s e).music }
-    ensures kept { (r : Receiver) (e : MidiEvent) → is_about_tuning r.music (doing e.what) ≡ false → doing e.what ≢ Resets → (receive r e).tuning ≡ r.tuning }
-    ensures always { (r s : Receiver) (es : List MidiEvent) → r.music ≡ s.music → (receive_all r es).music ≡ (receive_all s es).music }
+    ensures alone { MusicIsAlone }
+    ensures kept { TuningIsKept }
+    ensures always { MusicIsAloneAlways }
 {}
