@@ -1,10 +1,10 @@
 -- A text that is read is a mapping text, and a mapping text is read; each text has a mapping or a first fault.
 use Rattle.std.proofs.Common.{◌≡◌, ℕ, zero, suc, ◌+◌, ◌≤◌, List, [], ◌∷◌, length, slice_get, Option, Some, None, Result, Ok, Err, refl, sym, ap, subst, ◌∙◌, inl, inr, arith}
-use Rattle.scala_lines.specs.Lines.{Numbered, content}
+use Rattle.scala_lines.specs.Lines.{Numbered, content, entry_lines}
 use Rattle.kbm_text.specs.declared.fault.KbmKind.{KbmKind}
 use Rattle.kbm_text.specs.declared.fault.KbmKind.TheVariants.{MissingField, SizeRange, KeyRange, DegreeRange}
 use Rattle.scala_lines.specs.Reading.{Fault, ◌>>=◌, fault, on_line}
-use Rattle.kbm_text.specs.Reading.{field_at, Keys, keys_at, entry_lines, entries_at, map_at, map_of}
+use Rattle.kbm_text.specs.Reading.{field_at, Keys, keys_at, entries_at, map_at, map_of}
 use Rattle.kbm_text.specs.Field.{number_in, frequency_of, entry_of}
 use Rattle.kbm_text.specs.Map.{KeyMap}
 use Rattle.kbm_text.specs.Spelling.{IsIn, NotIn, IsFrequency, NoFrequency, IsEntry, AreEntries, IsMap, MapText, EntriesFault, FieldFault, OctaveFault, FrequencyFault, ReferenceFault, MiddleFault, LastFault, FirstFault, IsFault, MapFault}

@@ -1,7 +1,7 @@
 -- Reading a mapping text line by line, with the first fault that is met.
 use Rattle.std.specs.Prelude.{ℕ, zero, suc, ◌+◌, ◌==◌, List, [], ◌∷◌, length, Option, None, Result, Ok, Err, if◌then◌else◌}
 use Rattle.scala_lines.specs.Characters.{after_blanks}
-use Rattle.scala_lines.specs.Lines.{Numbered, content}
+use Rattle.scala_lines.specs.Lines.{Numbered, content, entry_lines}
 use Rattle.scala_lines.specs.Reading.{Fault, fault, ◌>>=◌, on_line}
 use Rattle.kbm_text.specs.declared.fault.KbmKind.{KbmKind}
 use Rattle.kbm_text.specs.declared.fault.KbmKind.TheVariants.{MissingField, SizeRange, KeyRange, DegreeRange}
@@ -29,15 +29,6 @@ keys_at missing lines = do
   middle ← field_at missing (number_in KeyRange 0 127) last.1
   reference ← field_at missing (number_in KeyRange 0 127) middle.1
   Ok (record { first = first.0; last = last.0; middle = middle.0; reference = reference.0 }, reference.1)
-
--- one more line in front of those that have more than blanks
-abbrev pub unless_blank : Numbered → List Numbered → List Numbered
-unless_blank line lines = if length (after_blanks line.bytes) == 0 then lines else line ∷ lines
-
--- the lines that have more than blanks
-abbrev pub entry_lines : List Numbered → List Numbered
-entry_lines [] = []
-entry_lines (line ∷ lines) = unless_blank line (entry_lines lines)
 
 -- so many entries; those that are left out at the end are unmapped
 unfoldable pub entries_at : ℕ → List Numbered → Result (List (Option ℕ)) (Fault KbmKind)

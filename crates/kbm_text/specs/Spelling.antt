@@ -3,12 +3,11 @@
 use Rattle.std.specs.Prelude.{ℕ, zero, suc, ◌+◌, ◌*◌, ◌≡◌, ◌<◌, ◌≤◌, ◌⊎◌, ◌==◌, ◌||◌, List, [], ◌∷◌, ◌++◌, length, Option, Some, None, Bool, true}
 use Rattle.scala_lines.specs.Characters.{is_blank, is_digit, Are, StopsAt}
 use Rattle.scala_lines.specs.Numbers.{value, billionths}
-use Rattle.scala_lines.specs.Lines.{Numbered, content}
+use Rattle.scala_lines.specs.Lines.{Numbered, content, entry_lines}
 use Rattle.scala_lines.specs.Spelling.{IsNumber, HasDigits, HasNoDigit}
 use Rattle.kbm_text.specs.declared.fault.KbmKind.{KbmKind}
 use Rattle.kbm_text.specs.declared.fault.KbmKind.TheVariants.{MissingField, BadNumber, SizeRange, KeyRange, BadFrequency, BadEntry, DegreeRange}
 use Rattle.kbm_text.specs.Field.{is_cross, greatest_frequency}
-use Rattle.kbm_text.specs.Reading.{entry_lines}
 use Rattle.kbm_text.specs.Map.{KeyMap}
 
 -- ---- one line

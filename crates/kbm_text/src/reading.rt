@@ -1,9 +1,9 @@
 ghost use Rattle.std.specs.Prelude.{◌≡◌, ◌≤◌, ◌<◌, ◌∷◌, [], length, List, ℕ};
 ghost use Rattle.std.specs.Prelude.{IfOk, IfErr, IfSome, IfNone};
-ghost use Rattle.scala_lines.specs.Lines.{lines_of};
+ghost use Rattle.scala_lines.specs.Lines.{lines_of, entry_lines};
 ghost use Rattle.scala_lines.specs.Remaining.{view, remaining, missing};
 ghost use Rattle.kbm_text.specs.Field.{number_in, frequency_of};
-ghost use Rattle.kbm_text.specs.Reading.{Keys, field_at, keys_at, entry_lines, entries_at, map_at, map_of};
+ghost use Rattle.kbm_text.specs.Reading.{Keys, field_at, keys_at, entries_at, map_at, map_of};
 ghost use Rattle.scala_lines.specs.Reading.{Gives, GivesBefore, Answers, AnswersFault, IsFaultOf};
 ghost use Rattle.kbm_text.specs.Answers.{seen};
 ghost use Rattle.kbm_text.specs.Spelling.{MapText, MapFault};
@@ -17,7 +17,7 @@ use crate::fault::{KbmFault, KbmKind};
 use crate::field::{entry, frequency, number};
 use crate::mapping::Mapping;
 use scala_lines::laws::{numbers, prefixes};
-use scala_lines::{Line, Lines, TEXT_LIMIT, after_blanks};
+use scala_lines::{Line, Lines, TEXT_LIMIT};
 use std::alloc::Global;
 
 /// The next line that isn't a comment, for a field.
@@ -108,21 +108,6 @@ fn keys(lines: &mut Lines<'_>) -> Result<KeyFields, KbmFault>
     })
 }
 
-/// The next line that is neither a comment nor blank.
-fn next_entry_line<'a>(lines: &mut Lines<'a>) -> Option<Line<'a>>
-    ensures some { IfSome result
-        (λ line. entry_lines (remaining lines.old) ≡ view line ∷ entry_lines (remaining lines.new)) }
-    ensures none { IfNone result (entry_lines (remaining lines.old) ≡ []) }
-    ensures ended { IfNone result (entry_lines (remaining lines.new) ≡ []) }
-{
-    'blank: while let Ok(line) = lines.next() {
-        if !after_blanks(line.bytes).is_empty() {
-            return Some(line);
-        }
-    }
-    None
-}
-
 /// So many entries; those that are left out are unmapped.
 fn entries(alloc: Global, lines: &mut Lines<'_>, size: u32) -> Result<Vec<Option<u16>>, KbmFault>
     ensures { Gives seen (λ v. v.items) result
@@ -130,7 +115,7 @@ fn entries(alloc: Global, lines: &mut Lines<'_>, size: u32) -> Result<Vec<Option
 {
     let mut entries = Vec::new(alloc);
     'entries: for _ in 0..size {
-        let found = match next_entry_line(lines) {
+        let found = match lines.next_entry() {
             None => None,
             Some(line) => match entry(line.bytes) {
                 Err(kind) => {

@@ -6,7 +6,7 @@ use Rattle.std.proofs.lemmas.Bool.{leb-true, leb-false, le-leb, lt-leb}
 use Rattle.key_pitch.specs.InForce.{IsTimeline, ticks_of, later_or, in_force, IsLast}
 
 -- nothing is in force exactly where every entry is after the tick
-none_begun : {X : Type 0} (tick : ℕ) (entries : List (ℕ × X)) → AllByRecursion (λ e. tick < e.0) entries → in_force tick entries ≡ None
+pub none_begun : {X : Type 0} (tick : ℕ) (entries : List (ℕ × X)) → AllByRecursion (λ e. tick < e.0) entries → in_force tick entries ≡ None
 none_begun tick [] after = refl
 none_begun tick (e ∷ later) after = ap (λ o. later_or o (if nat_le e.0 tick then Some e.1 else None)) (none_begun tick later after.1)
     ∙ ap (λ b. if b then Some e.1 else None) (lt-leb e.0 tick after.0)

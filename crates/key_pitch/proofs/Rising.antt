@@ -4,7 +4,7 @@ use Rattle.std.specs.List.{AllByRecursion}
 use Rattle.std.specs.List.Sorted.{IsStrictlyIncreasing}
 use Rattle.key_pitch.specs.InForce.{IsTimeline, ticks_of, IsLast}
 
-rest_rises : (x : ℕ) (xs : List ℕ) → IsStrictlyIncreasing (x ∷ xs) → IsStrictlyIncreasing xs
+pub rest_rises : (x : ℕ) (xs : List ℕ) → IsStrictlyIncreasing (x ∷ xs) → IsStrictlyIncreasing xs
 rest_rises x xs up k low =
     let n : ℕ = k + 1 in
     let is : n ≡ suc k = omega arith in
@@ -17,7 +17,7 @@ all_above x y [] below above = tt
 all_above x y (e ∷ later) below above = let first = above.0 in (omega arith, all_above x y later below above.1)
 
 -- a tick is before each entry behind it
-before_all : {X : Type 0} (x : ℕ) (entries : List (ℕ × X)) → IsStrictlyIncreasing (x ∷ ticks_of entries) → AllByRecursion (λ e. x < e.0) entries
+pub before_all : {X : Type 0} (x : ℕ) (entries : List (ℕ × X)) → IsStrictlyIncreasing (x ∷ ticks_of entries) → AllByRecursion (λ e. x < e.0) entries
 before_all x [] up = tt
 before_all x (e ∷ later) up = let first : x < e.0 = up 0 (omega arith) in (first, all_above x e.0 later first (before_all e.0 later (rest_rises x (e.0 ∷ ticks_of later) up)))
 

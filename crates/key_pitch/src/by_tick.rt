@@ -31,13 +31,8 @@ impl<'a> TablesByTick<'a> {
     fn at(&self, tick: u32) -> &'a KeyTable
         ensures { in_force tick (entries_of self.now) ≡ Some result.now }
     {
-        let mut found = &self.entries[0].1;
-        for (from, table) in self.entries {
-            if *from <= tick {
-                found = table;
-            }
-        }
-        found
+        let begun = self.entries.partition_point(|entry| entry.0 <= tick);
+        &self.entries[begun - 1].1
     }
 }
 

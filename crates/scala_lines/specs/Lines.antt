@@ -1,6 +1,6 @@
 -- The lines of a text of the Scala file formats.
-use Rattle.std.specs.Prelude.{ℕ, ◌+◌, ◌==◌, List, [], ◌∷◌, Bool, false, cond, not}
-use Rattle.scala_lines.specs.Characters.{behind}
+use Rattle.std.specs.Prelude.{ℕ, ◌+◌, ◌==◌, List, [], ◌∷◌, length, Bool, false, cond, not}
+use Rattle.scala_lines.specs.Characters.{behind, after_blanks}
 
 -- one more byte in front of the first piece
 abbrev pub with_byte : ℕ → List (List ℕ) → List (List ℕ)
@@ -60,3 +60,12 @@ content_from n (line ∷ lines) = kept n line (content_from (n + 1) lines)
 -- lines count from 1
 abbrev pub content : List (List ℕ) → List Numbered
 content lines = content_from 1 lines
+
+-- one more line in front of those that have more than blanks
+abbrev pub unless_blank : Numbered → List Numbered → List Numbered
+unless_blank line lines = cond (length (after_blanks line.bytes) == 0) lines (line ∷ lines)
+
+-- the lines that have more than blanks
+abbrev pub entry_lines : List Numbered → List Numbered
+entry_lines [] = []
+entry_lines (line ∷ lines) = unless_blank line (entry_lines lines)

@@ -1,5 +1,6 @@
 ghost use Rattle.std.specs.Prelude.{◌≡◌, ◌+◌, ◌<◌, ◌≤◌, ◌^◌, length};
 
+use crate::characters::after_blanks;
 use crate::pieces::{is_comment, split_line};
 
 /// The most bytes that a text may have (this project's own limit).
@@ -21,8 +22,8 @@ pub struct Lines<'a> {
 }
 
 impl<'a> Lines<'a> {
-    ghost use Rattle.std.specs.Prelude.{[], ◌∷◌, IfOk, IfErr};
-    ghost use Rattle.scala_lines.specs.Lines.{lines_of, content};
+    ghost use Rattle.std.specs.Prelude.{[], ◌∷◌, IfOk, IfErr, IfSome, IfNone};
+    ghost use Rattle.scala_lines.specs.Lines.{lines_of, content, entry_lines};
     ghost use Rattle.scala_lines.specs.Remaining.{view, remaining, missing};
 
     /// All lines of a text.
@@ -57,5 +58,20 @@ impl<'a> Lines<'a> {
             }
         }
         Err(self.number)
+    }
+
+    /// The next line that is neither a comment nor blanks alone.
+    pub fn next_entry(&mut self) -> Option<Line<'a>>
+        ensures some { IfSome result
+            (λ line. entry_lines (remaining self.old) ≡ view line ∷ entry_lines (remaining self.new)) }
+        ensures none { IfNone result (entry_lines (remaining self.old) ≡ []) }
+        ensures ended { IfNone result (entry_lines (remaining self.new) ≡ []) }
+    {
+        'blank: while let Ok(line) = self.next() {
+            if !after_blanks(line.bytes).is_empty() {
+                return Some(line);
+            }
+        }
+        None
     }
 }

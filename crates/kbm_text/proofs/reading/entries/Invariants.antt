@@ -1,6 +1,7 @@
 use Rattle.std.proofs.Common.{◌≡◌, ◌-◌}
+use Rattle.scala_lines.specs.Lines.{entry_lines}
 use Rattle.scala_lines.specs.Remaining.{remaining}
-use Rattle.kbm_text.specs.Reading.{entries_at, entry_lines}
+use Rattle.kbm_text.specs.Reading.{entries_at}
 use Rattle.kbm_text.proofs.Entries.{with_prefix}
 use Rattle.kbm_text.proofs.reading.entries.Given as goal
 

@@ -1,17 +1,20 @@
-use Rattle.std.proofs.Common.{ap, sym, ◌∙◌, Some}
-use Rattle.key_pitch.proofs.Latest.{begun, not_begun, not_first}
+use Rattle.std.proofs.Common.{◌≡◌, ◌≤◌, ◌<◌, ◌-◌, ◌+◌, ℕ, true, false, rules, length, get_or, arith}
+use Rattle.std.specs.Prelude.{nat_le}
+use Rattle.std.specs.List.Sorted.{IsPartitionPoint}
+use Rattle.std.proofs.lemmas.List.Sorted.{IsPartitionPoint-from_clause}
+use Rattle.key_pitch.proofs.Latest.{begun_before, some_begun, last_begun_at}
 use Rattle.key_pitch.proofs.by_tick.TablesByTick.at.Goals as goal
-use Rattle.key_pitch.proofs.by_tick.TablesByTick.at.Goals.{then-from-tick, else-from-tick}
 
-pub loop-from-preserved : goal.loop-from-preserved
-loop-from-preserved c some =
-    let entries = c.args.self.now.entries.now in
-    let i = c.loop-from.from-index in
-    let e = c.loop-from-item.result in
-    let below = c.loop-from-test.true in
-    let is = c.loop-from-item.is in
-    elim c.if-from-tick.branch [
-      | then-from-tick w ↦ begun c.args.tick entries i e below is w.if-from-tick.true ∙ ap (λ f. Some f.now) (sym w.found-is)
-      | else-from-tick w ↦ not_begun c.args.tick entries i e below is w.if-from-tick.false
-          ∙ c.loop-from.invariant (not_first c.args.tick entries i e c.args.self.now.timeline is w.if-from-tick.false) ∙ ap (λ f. Some f.now) (sym w.found-is)
-    ]
+pub overflow_sub-result : goal.overflow_sub-result
+overflow_sub-result c =
+    let tables = c.args.self.now in
+    some_begun c.args.tick tables.entries.now c.partition_point-begun.result tables.timeline
+    (IsPartitionPoint-from_clause (λ e. nat_le e.0 c.args.tick) tables.entries.now c.partition_point-begun.result c.partition_point-begun.ensures.partitioned
+    (begun_before c.args.tick tables.entries.now tables.timeline.ascending) (λ a r f k. search rules))
+
+pub returns : goal.returns
+returns c =
+    let tables = c.args.self.now in
+    last_begun_at c.args.tick tables.entries.now c.partition_point-begun.result c.index-self-begun.result tables.timeline c.partition_point-begun.ensures.bound
+    (IsPartitionPoint-from_clause (λ e. nat_le e.0 c.args.tick) tables.entries.now c.partition_point-begun.result c.partition_point-begun.ensures.partitioned
+    (begun_before c.args.tick tables.entries.now tables.timeline.ascending) (λ a r f k. search rules))
