@@ -1,21 +1,74 @@
--- The used row of a port: the channels that its runs are given (this project's own).
-use Rattle.std.specs.Prelude.{ℕ, zero, suc, ◌+◌, List, [], ◌∷◌, Bool, ◌&&◌, filter, take, get_or}
-use Rattle.retune_model.specs.Options.{Options}
-use Rattle.retune_model.specs.Faults.{is_part}
+-- The used row of a port or of a zone: the channels that its runs are given; and the plan of a port (this project's own).
+use Rattle.std.specs.Prelude.{◌≡◌, ◌≤◌, ◌<◌, ◌⊎◌, ℕ, zero, suc, ◌+◌, List, [], ◌∷◌, Bool, true, false, ◌&&◌, nat_eq, filter, take, get_or, length, Option, Some, None}
+use Rattle.std.specs.Set.{is_member}
+use Rattle.mt_base.specs.Midi.{MidiEvent}
+use Rattle.retune_model.specs.Options.{Options, keeps_drums}
+use Rattle.retune_model.specs.Ports.{port_at, events_on}
+use Rattle.retune_model.specs.Faults.{Targets, is_part}
+use Rattle.retune_model.specs.Pairs.{Pair, is_same_pair, channels_of}
+use Rattle.retune_model.specs.Runs.{since}
+use Rattle.retune_model.specs.PortNeed.{pairs_on, IsNeedOf}
+use Rattle.retune_model.specs.Dump.{from_up, sounding_parts}
+use Rattle.channel_model.specs.Choice.{TakesShortest, TakesShortestMember}
+use Rattle.channel_model.specs.MpeOutput.{Zone, members_from, zones_for, lower_allowed, upper_allowed}
 
--- so many numbers from one on
-abbrev pub from_up : ℕ → ℕ → List ℕ
-from_up c zero = []
-from_up c (suc n) = c ∷ from_up (c + 1) n
+-- ---- used rows
 
 -- The allowed channels, ascending: those that are asked for, without channel 10 where drums are kept.
 abbrev pub allowed_row : Options → (ℕ → Bool) → List ℕ
 allowed_row o allowed = filter (λ c. allowed c && is_part o c) (from_up 0 16)
 
--- the used row: the first so many as the port needs
+-- the first so many as the port needs
 abbrev pub used_row : Options → (ℕ → Bool) → ℕ → List ℕ
 used_row o allowed need = take need (allowed_row o allowed)
 
--- the channel at a place of the row
-abbrev pub channel_in : List ℕ → ℕ → ℕ
-channel_in row i = get_or row i 0
+-- on MPE, as many members of a zone as its part needs, from the master outward
+abbrev pub zone_row : Zone → List ℕ
+zone_row zone = members_from zone 0 zone.members
+
+-- the channel that the run of p has at position k: the one at its place of the row
+abbrev pub channel_by : List ℕ → (ℕ → ℕ) → (ℕ → List Pair) → ℕ → Pair → ℕ
+channel_by used row at k p = get_or used (row (since is_same_pair at p k)) 0
+
+-- ---- plans
+
+-- The plan of a port on the bend route: its need is within the allowed channels, and each run gets, of the used row, a free channel with
+-- the shortest setup.
+pub record IsBendPlan (o : Options) (allowed : ℕ → Bool) (table : Targets) (es : List MidiEvent) (z n instant : ℕ) (row : ℕ → ℕ) (channel : ℕ → Pair → ℕ) : Type 0 where
+  pub need : IsNeedOf o (is_part o) table es z n instant
+  pub allowed : n ≤ length (allowed_row o allowed)
+  pub takes : TakesShortest o table (port_at es z) (length es) n row
+  pub channel : (k : ℕ) (p : Pair) → channel k p ≡ channel_by (used_row o allowed n) row (pairs_on o (is_part o) table es z) k p
+
+-- one channel of a port alone
+abbrev pub only : ℕ → ℕ → Bool
+only c d = nat_eq d c
+
+-- The plan of a zone: as many members as its part needs, and each run gets a free member, without a bend where one has its bend.
+pub record IsZonePlan (o : Options) (table : Targets) (es : List MidiEvent) (z : ℕ) (zone : Zone) (instant : ℕ) (row : ℕ → ℕ) (channel : ℕ → Pair → ℕ) : Type 0 where
+  pub need : IsNeedOf o (only zone.part) table es z zone.members instant
+  pub takes : TakesShortestMember o (only zone.part) table (port_at es z) (length es) zone.members row
+  pub channel : (k : ℕ) (p : Pair) → p.part.channel ≡ zone.part → channel k p ≡ channel_by (zone_row zone) row (pairs_on o (only zone.part) table es z) k p
+
+-- the parts of a port that have a note on, with their needs
+abbrev pub needs_of : (ℕ → ℕ) → List ℕ → List (ℕ × ℕ)
+needs_of need [] = []
+needs_of need (c ∷ cs) = (c, need c) ∷ needs_of need cs
+
+-- whether each zone has no more members than it may
+abbrev pub zones_fit : Bool → List Zone → Type 0
+zones_fit drums [] = Unit {0}
+zones_fit drums (l ∷ []) = l.members ≤ lower_allowed drums (l ∷ [])
+zones_fit drums (l ∷ u ∷ _) = (l.members ≤ lower_allowed drums (l ∷ u ∷ [])) × (u.members ≤ upper_allowed drums)
+
+-- The zones of a port: at most two parts have a note on, each zone is of one of them, and none has more members than it may.
+pub record AreZonesOf (o : Options) (es : List MidiEvent) (z : ℕ) (need : ℕ → ℕ) (zones : List Zone) : Type 0 where
+  pub few : length (sounding_parts o (events_on z es)) ≤ 2
+  pub zones : zones ≡ zones_for (needs_of need (sounding_parts o (events_on z es)))
+  pub fit : zones_fit (keeps_drums o (events_on z es)) zones
+
+-- ---- the assignment that is read from an output
+
+-- the i-th retuned note of a port of the source has the channel of the i-th retuned note of the port in the output
+abbrev pub read_channel : (ℕ → Bool) → ℕ → List MidiEvent → ℕ → ℕ
+read_channel part z out i = get_or (channels_of part z out) i 0

@@ -1,5 +1,5 @@
 -- Worked examples: scales, mappings, tables of bounds, sources and what they cause. Channels are counted from 0.
-use Rattle.std.specs.Prelude.{ℕ, zero, suc, ◌+◌, ◌*◌, ℤ, pos, List, [], ◌∷◌, ◌++◌, true, nat_eq, if◌then◌else◌, Option, Some, None, length, map}
+use Rattle.std.specs.Prelude.{ℕ, zero, suc, ◌+◌, ◌*◌, ℤ, pos, List, [], ◌∷◌, ◌++◌, true, false, Bool, nat_eq, if◌then◌else◌, Option, Some, None, length, map}
 use Rattle.mt_base.specs.declared.event.Msg.TheVariants.{NoteOn, NoteOff, Control, Program, Bend}
 use Rattle.mt_base.specs.Midi.{MidiEvent, MetaOf}
 use Rattle.midi_model.specs.TuningBytes.{select_of}
@@ -11,6 +11,9 @@ use Rattle.retune_model.specs.Table.{Bounds, Scaling, one_scale}
 use Rattle.retune_model.specs.Options.{Options, Route, ByBend, ByMpe}
 use Rattle.retune_model.specs.Faults.{Targets, Kind, is_part}
 use Rattle.retune_model.specs.Pairs.{Pair}
+use Rattle.midi_model.specs.Notes.{Note}
+use Rattle.midi_model.specs.Receiver.{after}
+use Rattle.retune_model.specs.Octave.{OctaveTuning, octave_played}
 use Rattle.retune_model.specs.PortNeed.{pairs_on, held_on, need_of}
 use Rattle.retune_model.specs.SourceFaults.{Fault, first_fault}
 
@@ -189,3 +192,32 @@ fault_of o table es = fault_if (first_fault o table es)
 -- the change of key 69 to 69 semitones
 abbrev pub change : ℕ → List ℕ
 change k = 0x7f ∷ 0x7f ∷ 0x08 ∷ 0x02 ∷ 0x00 ∷ 0x01 ∷ k ∷ k ∷ 0x00 ∷ 0x00 ∷ 0xf7 ∷ []
+
+-- ---- octave tuning
+
+-- twelve values as they are written: all level; and A raised by one step
+abbrev pub level_bytes : List ℕ
+level_bytes = 64 ∷ 0 ∷ 64 ∷ 0 ∷ 64 ∷ 0 ∷ 64 ∷ 0 ∷ 64 ∷ 0 ∷ 64 ∷ 0 ∷ 64 ∷ 0 ∷ 64 ∷ 0 ∷ 64 ∷ 0 ∷ 64 ∷ 0 ∷ 64 ∷ 0 ∷ 64 ∷ 0 ∷ []
+
+abbrev pub raised_bytes : List ℕ
+raised_bytes = 64 ∷ 0 ∷ 64 ∷ 0 ∷ 64 ∷ 0 ∷ 64 ∷ 0 ∷ 64 ∷ 0 ∷ 64 ∷ 0 ∷ 64 ∷ 0 ∷ 64 ∷ 0 ∷ 64 ∷ 0 ∷ 64 ∷ 1 ∷ 64 ∷ 0 ∷ 64 ∷ 0 ∷ []
+
+-- for channels of the last of the three bytes
+abbrev pub octave_message : ℕ → List ℕ → List ℕ
+octave_message channels values = 0x7e ∷ 0x7f ∷ 8 ∷ 9 ∷ 0 ∷ 0 ∷ channels ∷ (values ++ 0xf7 ∷ [])
+
+abbrev pub read_values : Option OctaveTuning → List ℕ
+read_values (Some m) = m.values
+read_values None = []
+
+abbrev pub read_for : Option OctaveTuning → ℕ → Bool
+read_for (Some m) c = m.channels c
+read_for None c = false
+
+-- the pitch of the first note that has begun on the first channel
+abbrev pub pitch_of_first : List MidiEvent → List Note → ℤ
+pitch_of_first es [] = pos 0
+pitch_of_first es (n ∷ ns) = octave_played es n
+
+abbrev pub octave_pitch : List MidiEvent → ℤ
+octave_pitch es = pitch_of_first es (after es).music.notes

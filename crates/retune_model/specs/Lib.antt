@@ -4,6 +4,7 @@ pub mod Options
 pub mod Source
 pub mod Ports
 pub mod PlaysTheSame
+pub mod Octave
 pub mod Faults
 pub mod Pairs
 pub mod Rests

@@ -1,13 +1,13 @@
 -- Laws of what a port needs, and of the assignments of channels to its notes. `part` says of which channels the notes are: of all
 -- retuned parts, or of one alone.
-use Rattle.std.specs.Prelude.{◌≡◌, ◌≤◌, ◌<◌, ℕ, Bool, true, List}
+use Rattle.std.specs.Prelude.{◌≡◌, ◌≤◌, ◌<◌, ℕ, Bool, true, List, length}
 use Rattle.std.specs.List.{IsDistinct}
 use Rattle.std.specs.Set.{is_member}
 use Rattle.mt_base.specs.Midi.{MidiEvent}
 use Rattle.retune_model.specs.Options.{Options}
 use Rattle.retune_model.specs.Faults.{Targets}
 use Rattle.retune_model.specs.Pairs.{Pair, is_same_pair}
-use Rattle.retune_model.specs.Runs.{since}
+use Rattle.retune_model.specs.Runs.{since, begins, HasRoom}
 use Rattle.retune_model.specs.PortNeed.{AreParts, pairs_on, IsNeedOf, need_of, IsValidOn, size_on, TakesFreeOn, place_on}
 use Rattle.retune_model.specs.SourceFaults.{IsSound}
 
@@ -53,3 +53,9 @@ PairsStandOnce = (o : Options) (part : ℕ → Bool) (table : Targets) (es : Lis
 abbrev pub CountingFindsNeed : Type 0
 CountingFindsNeed = (o : Options) (part : ℕ → Bool) (table : Targets) (es : List MidiEvent) (z : ℕ) →
     IsNeedOf o part table es z (need_of o part table es z).0 (need_of o part table es z).1
+
+-- where a run begins, one of the first n channels is free
+abbrev pub NeedHasRoom : Type 0
+NeedHasRoom = (o : Options) (part : ℕ → Bool) (table : Targets) (es : List MidiEvent) (z n instant : ℕ) (row : ℕ → ℕ) (k : ℕ) (p : Pair) →
+    IsNeedOf o part table es z n instant → k < length es → begins is_same_pair (pairs_on o part table es z) k p ≡ true →
+    HasRoom is_same_pair (pairs_on o part table es z) n row k

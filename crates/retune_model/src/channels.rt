@@ -5,7 +5,7 @@ ghost use Rattle.std.specs.List.{IsDistinct};
 ghost use Rattle.std.specs.Set.{is_member};
 ghost use Rattle.retune_model.specs.Pairs.{Pair, is_same_pair};
 ghost use Rattle.retune_model.specs.Need.{IsNeed, ArePairs, IsValid, channels_used};
-ghost use Rattle.retune_model.specs.NeedLaws.{NoneHasFewer, FewerAreRefused, FreeOnesAreValid, FreeOnesAreAsMany, AllAreUsed, PairsStandOnce, CountingFindsNeed};
+ghost use Rattle.retune_model.specs.NeedLaws.{NoneHasFewer, FewerAreRefused, FreeOnesAreValid, FreeOnesAreAsMany, AllAreUsed, PairsStandOnce, NeedHasRoom, CountingFindsNeed};
 ghost use Rattle.retune_model.specs.Runs.{since, begins, OneBegins, IsFree, TakesFree, TakesLowest, HoldUnbroken, place_of_note, HasRoom};
 
 use crate::faults::sound_sources;
@@ -32,7 +32,7 @@ pub fn run_laws()
 
 /// For each port of a source without a fault, and for each tail: no valid assignment of channels to the port's notes has fewer
 /// channels than the port needs. A rule that gives each run, as it begins, a free one of the first channels, as many as are needed,
-/// gives a valid assignment with just so many, and at the instant each of them is in use. The same holds of the notes of one part.
+/// gives a valid assignment with just so many, and at the instant each of them is in use; a free one is always there. The same holds of the notes of one part.
 pub fn fewest_channels()
     ensures fewest { NoneHasFewer }
     ensures refused { FewerAreRefused }
@@ -40,6 +40,7 @@ pub fn fewest_channels()
     ensures as_many { FreeOnesAreAsMany }
     ensures all_used { AllAreUsed }
     ensures once { PairsStandOnce }
+    ensures room { NeedHasRoom }
     ensures counted { CountingFindsNeed }
 {
     rests_are_runs();

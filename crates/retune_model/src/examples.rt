@@ -1,10 +1,10 @@
 //! What the definitions say of small scales and sources. The functions do nothing: their contracts are the examples.
 
-ghost use Rattle.std.specs.Prelude.{◌≡◌, ◌++◌, ◌+◌, ◌*◌, ◌-◌, ◌≤◌, ℕ, ℤ, true, false, List, [], ◌∷◌, pos, negsuc, neg_ℤ, Some, None, length};
+ghost use Rattle.std.specs.Prelude.{◌≡◌, ◌++◌, ◌+◌, ◌*◌, ◌-◌, ◌≤◌, ℕ, ℤ, true, false, List, [], ◌∷◌, pos, negsuc, neg_ℤ, Some, None, length, replicate};
 ghost use Rattle.mt_base.specs.declared.event.Msg.TheVariants.{NoteOn, NoteOff, KeyPressure, Control, Program, Pressure, Bend};
 ghost use Rattle.midi_model.specs.Music.{quiet, play, channel_at};
 ghost use Rattle.midi_model.specs.TuningBytes.{select_of};
-ghost use Rattle.midi_model.specs.Examples.{at, all_at, sysex, two_channels, dump};
+ghost use Rattle.midi_model.specs.Examples.{at, all_at, sysex, general_midi_on, two_channels, dump};
 ghost use Rattle.kbm_text.specs.Map.{a440};
 ghost use Rattle.retune_model.specs.Scale.{scale_pitch, term_count};
 ghost use Rattle.retune_model.specs.Table.{nearest_tuning, nearest_key, nearest_steps};
@@ -14,10 +14,11 @@ ghost use Rattle.retune_model.specs.Faults.{UnmappedKey, Unison, BendTooFar, Mod
 ghost use Rattle.retune_model.specs.Ports.{tick_to};
 ghost use Rattle.retune_model.specs.PortNeed.{IsValidOn, size_on};
 ghost use Rattle.retune_model.specs.SourceFaults.{first_fault, IsSound};
+ghost use Rattle.retune_model.specs.Octave.{octave_of};
 ghost use Rattle.retune_model.specs.Dump.{dumped, told_live};
 ghost use Rattle.retune_model.specs.PlaysTheSame.{PlayTheSame, plain_device};
 ghost use Rattle.retune_model.specs.Dumpable.{IsDumpable};
-ghost use Rattle.retune_model.specs.Examples.{two_steps, comma, comma_mapping, gapped_mapping, equal_table, just_table, gapped_table, joined_table, with_route, at_range, resting, bend_options, mpe_options, end_at, one_note, chord, octave_apart, two_parts, reset_between, one_after_other, bent_at_rest, port_event, two_ports, five_ports, ends_in, dumped_begins_in, counts, pairs, pair, held, needed, fault_of, change, even};
+ghost use Rattle.retune_model.specs.Examples.{two_steps, comma, comma_mapping, gapped_mapping, equal_table, just_table, gapped_table, joined_table, with_route, at_range, resting, bend_options, mpe_options, end_at, one_note, chord, octave_apart, two_parts, reset_between, one_after_other, bent_at_rest, port_event, two_ports, five_ports, ends_in, dumped_begins_in, counts, pairs, pair, held, needed, fault_of, change, even, octave_message, level_bytes, raised_bytes, read_values, read_for, octave_pitch};
 
 use crate::channels::fewest_channels;
 use crate::faults::fault_laws;
@@ -122,6 +123,18 @@ pub fn output_examples()
     ensures dump { dumped (with_route ByDump 12) dump one_note ≡ sysex 0 dump ∷ (all_at 0 (select_of 0 0) ++ one_note) }
     ensures dump_of_nothing { dumped (with_route ByDump 12) dump (end_at 0 ∷ []) ≡ end_at 0 ∷ [] }
     ensures live { told_live (with_route ByLive 12) change one_note ≡ all_at 0 (select_of 0 0) ++ (sysex 0 (change 69) ∷ one_note) }
+{}
+
+/// A message of octave tuning for the first channel, and by how much a receiver moves a key by it; a tuning of no channel; a device of
+/// two bytes.
+pub fn octave_examples()
+    ensures values { read_values (octave_of (octave_message 1 level_bytes)) ≡ replicate 12 8192 }
+    ensures first { read_for (octave_of (octave_message 1 level_bytes)) 0 ≡ true }
+    ensures second { read_for (octave_of (octave_message 1 level_bytes)) 1 ≡ false }
+    ensures short { octave_of (0x7e ∷ 0x7f ∷ 8 ∷ 9 ∷ 0 ∷ 0 ∷ 1 ∷ 0xf7 ∷ []) ≡ None }
+    ensures moved { octave_pitch (sysex 0 (octave_message 1 raised_bytes) ∷ one_note) ≡ pos (69 * 3200000000000 + 390625000) }
+    ensures other_channel { octave_pitch (sysex 0 (octave_message 2 raised_bytes) ∷ one_note) ≡ pos (69 * 3200000000000) }
+    ensures reset { octave_pitch (sysex 0 (octave_message 1 raised_bytes) ∷ sysex 0 general_midi_on ∷ one_note) ≡ pos (69 * 3200000000000) }
 {}
 
 /// The premises of the law of need can be met, and what it says of the first example: with a tail of 1 no valid assignment makes do

@@ -1,4 +1,4 @@
-use Rattle.std.proofs.Common.{◌≤◌, length, subst}
+use Rattle.std.proofs.Common.{◌≤◌, suc, length, subst, arith}
 use Rattle.retune_model.specs.Ports.{port_at, of_port}
 use Rattle.retune_model.specs.Rests.{holding, holds_at, pair_at, began_at}
 use Rattle.retune_model.specs.PortNeed.{pairs_on, notes_on, size_on}
@@ -50,3 +50,6 @@ returns-clause-all_used c o part table es z n instant row h takes =
 
 pub returns-clause-counted : goal.returns-clause-counted
 returns-clause-counted c o part table es z = is_most (pairs_on o part table es z) (length es)
+
+pub returns-clause-room : goal.returns-clause-room
+returns-clause-room c o part table es z n instant row k p need low new = c.run_laws.ensures.room (pairs_on o part table es z) n row k p new (need.most (suc k) (omega (arith, low)))
