@@ -2,8 +2,10 @@
 use Rattle.std.proofs.Common.{◌≡◌, ℕ, ◌+◌, ◌-◌, ◌*◌, ◌<◌, ◌≤◌, ◌⊎◌, List, [], ◌∷◌, length, get_or, take, drop, Ok, eqb, true, false, refl, ap, ◌∙◌, inl, inr, arith}
 use Rattle.std.proofs.lemmas.Bool.{lt-ltb, le-ltb, ne_eqb}
 use Rattle.std.proofs.lemmas.List.{take_all}
-use Rattle.mt_base.specs.Midi.{Says}
-use Rattle.midi_model.specs.Reading.{quantity_at, quantity_from, data_at, message_at, body_at, long_msg, is_short, IsLong}
+use Rattle.mt_base.specs.Midi.{MidiWhat, Says}
+use Rattle.midi_model.specs.declared.numbers.TheConstants.{LAST_TICK}
+use Rattle.smf_read.specs.Short.{IsShort}
+use Rattle.midi_model.specs.Reading.{quantity_at, quantity_from, data_at, message_at, body_at, event_at, long_msg, is_short, IsLong}
 
 one_byte : (b : ℕ) (bytes : List ℕ) → b < 128 → quantity_at (b ∷ bytes) ≡ Ok (b, bytes)
 unfolding quantity_at quantity_from
@@ -36,15 +38,60 @@ pub one_byte_at : (bytes : List ℕ) → 1 ≤ length bytes → get_or bytes 0 0
 one_byte_at [] some low = absurd (omega (arith, some))
 one_byte_at (b ∷ bytes) some low = rw (take_all (length (b ∷ bytes) - 1) bytes (omega arith)) (one_byte b bytes low)
 
-pub running_long_at : (running : ℕ) (bytes : List ℕ) → 2 ≤ length bytes → IsLong running → get_or bytes 0 0 < 128 → get_or bytes 1 0 < 128
-    → body_at running bytes ≡ Ok (Says (long_msg running (get_or bytes 0 0) (get_or bytes 1 0)), running, take (length bytes - 2) (drop 2 bytes))
-running_long_at running [] some long low low2 = absurd (omega (arith, some))
-running_long_at running (d ∷ []) some long low low2 = absurd (omega (arith, some))
-running_long_at running (d ∷ e ∷ bytes) some long low low2 = rw (take_all (length (d ∷ e ∷ bytes) - 2) bytes (omega arith)) (running_long running d e bytes long low low2)
 
-pub status_long_at : (running : ℕ) (bytes : List ℕ) → 3 ≤ length bytes → IsLong (get_or bytes 0 0) → get_or bytes 1 0 < 128 → get_or bytes 2 0 < 128
-    → body_at running bytes ≡ Ok (Says (long_msg (get_or bytes 0 0) (get_or bytes 1 0) (get_or bytes 2 0)), get_or bytes 0 0, take (length bytes - 3) (drop 3 bytes))
-status_long_at running [] some long low low2 = absurd (omega (arith, some))
-status_long_at running (b ∷ []) some long low low2 = absurd (omega (arith, some))
-status_long_at running (b ∷ d ∷ []) some long low low2 = absurd (omega (arith, some))
-status_long_at running (b ∷ d ∷ e ∷ bytes) some long low low2 = rw (take_all (length (b ∷ d ∷ e ∷ bytes) - 3) bytes (omega arith)) (status_long running b d e bytes long low low2)
+two_bytes : (h l : ℕ) (bytes : List ℕ) → 128 ≤ h → l < 128 → quantity_at (h ∷ l ∷ bytes) ≡ Ok ((h - 128) * 128 + l, bytes)
+unfolding quantity_at quantity_from
+two_bytes h l bytes high low = rw (le-ltb h 128 high, lt-ltb l 128 low) (ap (λ (n : ℕ). Ok (n, bytes)) (omega arith))
+
+-- an event whose delta and body are known
+event_is : (running before delta status : ℕ) (bytes rest after : List ℕ) (what : MidiWhat) → quantity_at bytes ≡ Ok (delta, rest) → body_at running rest ≡ Ok (what, status, after) → before + delta ≤ LAST_TICK
+    → event_at running before bytes ≡ Ok (record { tick = before + delta; what = what }, status, after)
+unfolding event_at
+event_is running before delta status bytes rest after what q b le = rw (q, le-ltb LAST_TICK (before + delta) le, b) refl
+
+pub running_short : (running : ℕ) (bytes : List ℕ) → 3 ≤ length bytes → get_or bytes 0 0 < 128 → get_or bytes 1 0 < 128 → get_or bytes 2 0 < 128 → IsLong running
+    → IsShort running bytes (record { delta = get_or bytes 0 0; status = running; first = get_or bytes 1 0; second = get_or bytes 2 0; len = 3 })
+running_short running [] some l0 l1 l2 long = absurd (omega (arith, some))
+running_short running (a ∷ []) some l0 l1 l2 long = absurd (omega (arith, some))
+running_short running (a ∷ d ∷ []) some l0 l1 l2 long = absurd (omega (arith, some))
+running_short running (a ∷ d ∷ e ∷ bytes) some l0 l1 l2 long = record {
+  reads = λ before le. event_is running before a running (a ∷ d ∷ e ∷ bytes) (d ∷ e ∷ bytes) bytes _ (one_byte a (d ∷ e ∷ bytes) l0) (running_long running d e bytes long l1 l2) le;
+  small = omega (arith, l0);
+  long = long;
+  first = l1;
+  second = l2;
+  some = omega arith;
+  within = omega arith;
+}
+
+pub status_short : (running : ℕ) (bytes : List ℕ) → 4 ≤ length bytes → get_or bytes 0 0 < 128 → IsLong (get_or bytes 1 0) → get_or bytes 2 0 < 128 → get_or bytes 3 0 < 128
+    → IsShort running bytes (record { delta = get_or bytes 0 0; status = get_or bytes 1 0; first = get_or bytes 2 0; second = get_or bytes 3 0; len = 4 })
+status_short running [] some l0 long l2 l3 = absurd (omega (arith, some))
+status_short running (a ∷ []) some l0 long l2 l3 = absurd (omega (arith, some))
+status_short running (a ∷ s ∷ []) some l0 long l2 l3 = absurd (omega (arith, some))
+status_short running (a ∷ s ∷ d ∷ []) some l0 long l2 l3 = absurd (omega (arith, some))
+status_short running (a ∷ s ∷ d ∷ e ∷ bytes) some l0 long l2 l3 = record {
+  reads = λ before le. event_is running before a s (a ∷ s ∷ d ∷ e ∷ bytes) (s ∷ d ∷ e ∷ bytes) bytes _ (one_byte a (s ∷ d ∷ e ∷ bytes) l0) (status_long running s d e bytes long l2 l3) le;
+  small = omega (arith, l0);
+  long = long;
+  first = l2;
+  second = l3;
+  some = omega arith;
+  within = omega arith;
+}
+
+pub later_short : (running : ℕ) (bytes : List ℕ) → 4 ≤ length bytes → 128 ≤ get_or bytes 0 0 → get_or bytes 0 0 < 256 → get_or bytes 1 0 < 128 → get_or bytes 2 0 < 128 → get_or bytes 3 0 < 128 → IsLong running
+    → IsShort running bytes (record { delta = (get_or bytes 0 0 - 128) * 128 + get_or bytes 1 0; status = running; first = get_or bytes 2 0; second = get_or bytes 3 0; len = 4 })
+later_short running [] some high fits l1 l2 l3 long = absurd (omega (arith, some))
+later_short running (h ∷ []) some high fits l1 l2 l3 long = absurd (omega (arith, some))
+later_short running (h ∷ l ∷ []) some high fits l1 l2 l3 long = absurd (omega (arith, some))
+later_short running (h ∷ l ∷ d ∷ []) some high fits l1 l2 l3 long = absurd (omega (arith, some))
+later_short running (h ∷ l ∷ d ∷ e ∷ bytes) some high fits l1 l2 l3 long = record {
+  reads = λ before le. event_is running before ((h - 128) * 128 + l) running (h ∷ l ∷ d ∷ e ∷ bytes) (d ∷ e ∷ bytes) bytes _ (two_bytes h l (d ∷ e ∷ bytes) high l1) (running_long running d e bytes long l2 l3) le;
+  small = omega (arith, high, fits, l1);
+  long = long;
+  first = l2;
+  second = l3;
+  some = omega arith;
+  within = omega arith;
+}

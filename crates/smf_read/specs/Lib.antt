@@ -2,3 +2,4 @@ pub mod Sound
 pub mod Views
 pub mod Files
 pub mod Remaining
+pub mod Short

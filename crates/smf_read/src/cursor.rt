@@ -5,8 +5,9 @@ ghost use Rattle.midi_model.specs.Reading.{IsRunning, track_in};
 ghost use Rattle.smf_read.specs.Sound.{IsSound};
 
 use crate::reading::{event, quantity};
+use crate::short::read_short;
 use crate::stop::stop;
-use midi_model::{END_OF_TRACK, SmfKind, Stop, reading_laws};
+use midi_model::{END_OF_TRACK, LAST_TICK, SmfKind, Stop, reading_laws};
 use mt_base::{Event, What};
 
 /// Whether the track ends here.
@@ -29,6 +30,14 @@ pub fn fault_in(bytes: &[u8]) -> Option<Stop>
     let mut tick = 0u32;
     let mut rest = bytes;
     'events: while !rest.is_empty() {
+        if let Some(short) = read_short(running, rest)
+            && tick + short.delta <= LAST_TICK
+        {
+            running = short.status;
+            tick += short.delta;
+            rest = &rest[short.len as usize..];
+            continue;
+        }
         match event(running, tick, rest) {
             Err(stop) => return Some(stop),
             Ok((found, status, after)) => {
@@ -108,7 +117,31 @@ impl<'a> Cursor<'a> {
     }
 
     /// The next event, the end of the track last. None exactly after it.
+    #[inline]
     pub fn next(&mut self) -> Option<Event<'a>>
+        ensures valid { IfSome result (λ e. IsValidEvent (view e)) }
+        ensures some { IfSome result (λ e. remaining self.old ≡ view e ∷ remaining self.new) }
+        ensures none { IfNone result ((remaining self.old ≡ []) × (remaining self.new ≡ [])) }
+        ensures all { all_of self.new ≡ all_of self.old }
+    {
+        reading_laws();
+        if let Some(short) = read_short(self.running, self.rest)
+            && self.tick + short.delta <= LAST_TICK
+        {
+            self.running = short.status;
+            self.tick += short.delta;
+            self.rest = &self.rest[short.len as usize..];
+            return Some(Event {
+                tick: self.tick,
+                track: self.track,
+                what: What::Message(short.message()),
+            });
+        }
+        self.any_next()
+    }
+
+    /// The same, read byte by byte.
+    fn any_next(&mut self) -> Option<Event<'a>>
         ensures valid { IfSome result (λ e. IsValidEvent (view e)) }
         ensures some { IfSome result (λ e. remaining self.old ≡ view e ∷ remaining self.new) }
         ensures none { IfNone result ((remaining self.old ≡ []) × (remaining self.new ≡ [])) }

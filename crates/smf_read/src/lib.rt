@@ -6,6 +6,7 @@ mod cursor;
 mod fault;
 mod file;
 mod reading;
+mod short;
 mod smf;
 mod stop;
 

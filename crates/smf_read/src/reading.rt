@@ -17,7 +17,8 @@ pub struct Found<'a> {
     pub what: What<'a>,
 }
 
-/// The channel of a status, where the first channel's is known.
+/// The channel of a status byte, where the first channel's is known.
+#[inline(always)]
 fn channel(status: u8, first: u8) -> Channel
     requires low { first ≤ status }
     requires high { status < first + 16 }
@@ -86,8 +87,9 @@ fn data(bytes: &[u8]) -> Result<(u8, &[u8]), Stop>
     }
 }
 
-/// The message of a status with two data bytes.
-fn long_msg(status: u8, d: u8, e: u8) -> Msg
+/// The message of a status byte with two data bytes.
+#[inline(always)]
+pub fn long_msg(status: u8, d: u8, e: u8) -> Msg
     requires status { IsLong status }
     requires d { d < 128 }
     requires e { e < 128 }
@@ -149,7 +151,7 @@ fn short_msg(status: u8, d: u8) -> Msg
 
 /// Whether a byte is the status byte of a message with two data bytes.
 #[inline(always)]
-fn is_long(status: u8) -> bool
+pub fn is_long(status: u8) -> bool
     ensures { IsTrue result ↔ IsLong status }
 {
     (status >= 0x80 && status < 0xc0) || (status >= 0xe0 && status < 0xf0)
@@ -221,7 +223,7 @@ fn meta(bytes: &[u8]) -> Result<(What<'_>, u8, &[u8]), Stop>
 
 /// An event behind its delta, and the running status after it.
 #[tactic(auto, unfolding(midi_model::specs::Reading::body_at))]
-fn any_body(running: u8, bytes: &[u8]) -> Result<(What<'_>, u8, &[u8]), Stop>
+fn body(running: u8, bytes: &[u8]) -> Result<(What<'_>, u8, &[u8]), Stop>
     requires { IsRunning running }
     ensures valid { IfOk result (λ x. IsValidWhat (view_what x.0)) }
     ensures gives { Gives3 view_what result (body_at running bytes.entry.now) }
@@ -251,29 +253,8 @@ fn any_body(running: u8, bytes: &[u8]) -> Result<(What<'_>, u8, &[u8]), Stop>
     }
 }
 
-/// The same, with a quick way for most events: a message with two data bytes, mostly in running status.
-#[inline(always)]
-fn body(running: u8, bytes: &[u8]) -> Result<(What<'_>, u8, &[u8]), Stop>
-    requires { IsRunning running }
-    ensures valid { IfOk result (λ x. IsValidWhat (view_what x.0)) }
-    ensures gives { Gives3 view_what result (body_at running bytes.entry.now) }
-    ensures within { Within3 result (length bytes.entry.now) }
-    ensures running { IfOk result (λ x. IsRunning x.1) }
-{
-    match bytes {
-        [d, e, rest @ ..] if *d < 128 && *e < 128 && is_long(running) => {
-            Ok((What::Message(long_msg(running, *d, *e)), running, rest))
-        }
-        [status, d, e, rest @ ..] if is_long(*status) && *d < 128 && *e < 128 => {
-            Ok((What::Message(long_msg(*status, *d, *e)), *status, rest))
-        }
-        _ => any_body(running, bytes),
-    }
-}
-
 /// An event, where those before it end at a tick, and the running status after it.
 #[tactic(auto, unfolding(midi_model::specs::Reading::event_at))]
-#[inline(always)]
 pub fn event(running: u8, before: u32, bytes: &[u8]) -> Result<(Found<'_>, u8, &[u8]), Stop>
     requires running { IsRunning running }
     requires before { before < 2 ^ 28 }
