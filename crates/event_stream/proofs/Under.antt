@@ -111,3 +111,18 @@ at_first others at leaf n tree one room low below i lt other =
     let small : i < n = omega (arith, lt, count_leaves n tree room) in
     let under = subst (λ q. IsUnder q (n + i)) (sym one) (under_first (n + i) (n + i) (omega arith) (omega (arith, small))) in
     rw (leaf_at n i tree 0 small) (below (n + i) (omega arith) (omega (arith, small)) (λ z. other (omega (arith, z))) under)
+
+-- the lesser of a number and the one beside it is the lesser of the two below the place above
+pub lesser : (least other at : ℕ) (tree : List ℕ) (x : ℕ) → x ≡ min least other → least ≡ get_or tree at 0
+    → (at % 2 ≡ 0 → other ≡ get_or tree (at + 1) 0) → (at % 2 ≡ 1 → other ≡ get_or tree (at - 1) 0)
+    → x ≡ min (get_or tree (2 * (at / 2)) 0) (get_or tree (2 * (at / 2) + 1) 0)
+lesser least other at tree x is here even odd = elim (cases_eq (at % 2) 0) [
+  | inl e ↦
+      let left : 2 * (at / 2) ≡ at = omega (arith, e) in
+      rw left (omega (arith, is, here, even e))
+  | inr o ↦
+      let one : at % 2 ≡ 1 = omega (arith, o) in
+      let left : 2 * (at / 2) ≡ at - 1 = omega (arith, one) in
+      let right : 2 * (at / 2) + 1 ≡ at = omega (arith, one) in
+      rw (right, left) (omega (arith, is, here, odd one))
+]

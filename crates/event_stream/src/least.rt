@@ -146,11 +146,14 @@ fn mend(tree: &mut [u64], count: usize, leaf: usize) -> u64
     ensures others { IsBelowOthers result (leaf - count) (leaves count tree.new) }
 {
     let mut at = leaf;
+    let mut least = tree[leaf];
     let mut others = u64::MAX;
     while at > 1 {
-        others = others.min(beside(tree, at));
+        let other = beside(tree, at);
+        others = others.min(other);
+        least = least.min(other);
         at /= 2;
-        tree[at] = tree[2 * at].min(tree[2 * at + 1]);
+        tree[at] = least;
     }
     others
 }
