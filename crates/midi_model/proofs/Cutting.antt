@@ -17,6 +17,7 @@ use Rattle.midi_model.proofs.Tracks.{stops, skips}
 use Rattle.midi_model.proofs.Again.{track_again}
 use Rattle.midi_model.proofs.Files.{header_again, number_front}
 use Rattle.midi_model.proofs.Faulting.{fault_takes}
+use Rattle.midi_model.proofs.Placing.{missing_place}
 
 -- the bytes end within a chunk, or where less than the head of one is left
 abbrev IsCut : Stop → Type 0
@@ -160,7 +161,7 @@ all_from_tracks header fields p file is are c =
     (c.0, rw (read, c.1) refl, c.2)
 
 abbrev pub Cut : ℕ → List ℕ → Type 0
-Cut n p = (offset : ℕ) × (kind : SmfKind) × FirstFault p offset kind × CutFault n offset kind
+Cut n p = (offset : ℕ) × (kind : SmfKind) × FirstFault p offset kind × CutFault p n offset kind
 
 read_as : (p : List ℕ) (e : Stop) → all_at p ≡ Err e → file_at p ≡ Err (length p - e.left, e.kind)
 unfolding file_at
@@ -170,7 +171,9 @@ is_cut : (n : ℕ) (p : List ℕ) → length p ≡ n → 4 ≤ n → CutShort (a
 is_cut n p is four (e, h, inl (kind, none)) =
     (length p - e.left, e.kind, fault_takes p (length p - e.left) e.kind (read_as p e h), inr (four, inl (omega (arith, is, none), kind)))
 is_cut n p is four (e, h, inr (kind, few)) =
-    (length p - e.left, e.kind, fault_takes p (length p - e.left) e.kind (read_as p e h), inr (four, inr (omega (arith, is), omega (arith, is, few), kind)))
+    let fault = fault_takes p (length p - e.left) e.kind (read_as p e h) in
+    let place = missing_place p (length p - e.left) e.kind fault kind in
+    (length p - e.left, e.kind, fault, inr (four, inr (omega (arith, is), omega (arith, is, few), kind, place.0)))
 
 no_magic : (n : ℕ) (p : List ℕ) → length p ≡ n → n < 4 → Cut n p
 no_magic n p is few =

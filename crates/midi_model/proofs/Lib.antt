@@ -10,6 +10,7 @@ pub mod Merging
 pub mod Playing
 pub mod Failing
 pub mod Faulting
+pub mod Placing
 pub mod Cutting
 pub mod Longest
 pub mod Ending

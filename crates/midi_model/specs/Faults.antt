@@ -144,6 +144,26 @@ pub record FirstFault (bytes : List ℕ) (offset : ℕ) (kind : SmfKind) : Type 
   pub place : offset ≡ length bytes - length back
   pub fault : FileFault bytes back kind
 
--- What is wrong with the first n bytes of a file that end before its last track chunk does.
-abbrev pub CutFault : ℕ → ℕ → SmfKind → Type 0
-CutFault n offset kind = ((n < 4) × (offset ≡ 0) × (kind ≡ NotMidi)) ⊎ ((4 ≤ n) × (((offset ≡ n) × (kind ≡ Truncated)) ⊎ ((offset ≤ n) × (n < offset + 8) × (kind ≡ MissingTrack))))
+-- chunks of any type, one after the other
+abbrev pub AreChunks : List (ℕ × List ℕ) → List ℕ → Type 0
+AreChunks [] bytes = bytes ≡ []
+AreChunks (c ∷ cs) bytes = (front : List ℕ) × (rest : List ℕ) × IsChunk front c.0 c.1 × (bytes ≡ front ++ rest) × AreChunks cs rest
+
+-- An offset where a chunk should begin: a header and whole chunks stand before it.
+pub record IsChunkPlace (bytes : List ℕ) (offset : ℕ) : Type 0 where
+  pub header : List ℕ
+  pub fields : List ℕ
+  pub chunks : List (ℕ × List ℕ)
+  pub front : List ℕ
+  pub rest : List ℕ
+  pub is_header : IsChunk header MTHD fields
+  pub are_chunks : AreChunks chunks front
+  pub parts : bytes ≡ header ++ (front ++ rest)
+  pub place : offset ≡ length header + length front
+
+-- What is wrong with the first n bytes of a file that end before its last track chunk does: a short file is none at all; else
+-- it is cut off at its end, or fewer than eight bytes are left where a chunk should begin.
+abbrev pub CutFault : List ℕ → ℕ → ℕ → SmfKind → Type 0
+CutFault bytes n offset kind =
+    ((n < 4) × (offset ≡ 0) × (kind ≡ NotMidi))
+    ⊎ ((4 ≤ n) × (((offset ≡ n) × (kind ≡ Truncated)) ⊎ ((offset ≤ n) × (n < offset + 8) × (kind ≡ MissingTrack) × IsChunkPlace bytes offset)))

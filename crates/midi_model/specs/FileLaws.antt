@@ -2,7 +2,8 @@
 use Rattle.std.specs.Prelude.{◌≡◌, ◌<◌, ◌≤◌, ◌^◌, ◌++◌, ◌⊎◌, ℕ, ◌+◌, List, length, take, Ok, Err}
 use Rattle.mt_base.specs.Midi.{Timed}
 use Rattle.midi_model.specs.declared.fault.SmfKind.{SmfKind}
-use Rattle.midi_model.specs.Faults.{AreEvents, TrackFault, FirstFault, CutFault}
+use Rattle.midi_model.specs.declared.fault.SmfKind.TheVariants.{MissingTrack}
+use Rattle.midi_model.specs.Faults.{AreEvents, TrackFault, FirstFault, IsChunkPlace, CutFault}
 use Rattle.midi_model.specs.FileText.{MidiFile, file_at}
 use Rattle.midi_model.specs.Merged.{merged, AreTracksOf, IsPlayable}
 use Rattle.midi_model.specs.Spelling.{Spells}
@@ -49,10 +50,22 @@ FileOrFault = (bytes : List ℕ) → ((file : MidiFile) × Spells bytes file) �
 abbrev pub NeverBoth : Type 0
 NeverBoth = (bytes : List ℕ) (file : MidiFile) (offset : ℕ) (kind : SmfKind) → Spells bytes file → FirstFault bytes offset kind → ⊥
 
--- a file that is cut off before its last track chunk ends has a first fault
+-- exactly one of: a file, and then no fault; or one fault at one offset, and then no file
+abbrev pub FileOrOneFault : Type 0
+FileOrOneFault = (bytes : List ℕ) →
+    ((file : MidiFile) × Spells bytes file × ((other : MidiFile) → Spells bytes other → other ≡ file) × ((offset : ℕ) (kind : SmfKind) → FirstFault bytes offset kind → ⊥))
+    ⊎ ((offset : ℕ) × (kind : SmfKind) × FirstFault bytes offset kind
+        × ((at : ℕ) (other : SmfKind) → FirstFault bytes at other → (at ≡ offset) × (other ≡ kind)) × ((file : MidiFile) → Spells bytes file → ⊥))
+
+-- where fewer than eight bytes are left for a chunk, a chunk should begin
+abbrev pub MissingHasPlace : Type 0
+MissingHasPlace = (bytes : List ℕ) (offset : ℕ) → FirstFault bytes offset MissingTrack → IsChunkPlace bytes offset × (length bytes < offset + 8)
+
+-- a prefix of a file that ends before its last track chunk does spells no file, and has a first fault by its length
 abbrev pub CutIsFaulty : Type 0
 CutIsFaulty = (bytes : List ℕ) (file : MidiFile) (is : Spells bytes file) (n : ℕ) → n < length is.header + length is.tracks
-    → (offset : ℕ) × (kind : SmfKind) × FirstFault (take n bytes) offset kind × CutFault n offset kind
+    → (offset : ℕ) × (kind : SmfKind) × FirstFault (take n bytes) offset kind × CutFault (take n bytes) n offset kind
+    × ((other : MidiFile) → Spells (take n bytes) other → ⊥)
 
 -- the tracks of a file are tracks that can be played
 abbrev pub TracksCanPlay : Type 0

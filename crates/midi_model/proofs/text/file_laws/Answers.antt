@@ -1,6 +1,9 @@
+use Rattle.std.proofs.Common.{refl, take, inl, inr}
+use Rattle.midi_model.specs.declared.fault.SmfKind.TheVariants.{MissingTrack}
 use Rattle.midi_model.proofs.Files.{file_takes, file_again, one_file}
 use Rattle.midi_model.proofs.Faulting.{fault_takes, fault_again, one_fault, file_or_fault, never_both}
 use Rattle.midi_model.proofs.Cutting.{cut_off}
+use Rattle.midi_model.proofs.Placing.{missing_place}
 use Rattle.midi_model.proofs.Longest.{longest}
 use Rattle.midi_model.proofs.Ending.{offset_is}
 use Rattle.midi_model.proofs.Laws.{none_runs}
@@ -38,10 +41,21 @@ pub returns-clause-playable : goal.returns-clause-playable
 returns-clause-playable c bytes file few is = spelled_playable bytes file few is
 
 pub returns-clause-cut : goal.returns-clause-cut
-returns-clause-cut c bytes file is n lt = cut_off bytes file is n lt
+returns-clause-cut c bytes file is n lt =
+    let r = cut_off bytes file is n lt in
+    (r.0, r.1, r.2, r.3, λ other o. never_both (take n bytes) other r.0 r.1 o r.2)
 
 pub returns-clause-longest : goal.returns-clause-longest
 returns-clause-longest c content back kind t front rest events running tick are parts = longest 0 0 content back kind t front rest events running tick none_runs are parts
 
 pub returns-clause-offset : goal.returns-clause-offset
 returns-clause-offset c bytes offset kind f = offset_is bytes offset kind f
+
+pub returns-clause-exactly_one : goal.returns-clause-exactly_one
+returns-clause-exactly_one c bytes = elim (file_or_fault bytes) [
+  | inl (file, is) ↦ inl (file, is, (λ other o. one_file bytes other file o is), (λ offset kind f. never_both bytes file offset kind is f))
+  | inr (offset, kind, f) ↦ inr (offset, kind, f, (λ at other g. one_fault bytes at other offset kind g f), (λ file is. never_both bytes file offset kind is f))
+]
+
+pub returns-clause-missing : goal.returns-clause-missing
+returns-clause-missing c bytes offset f = missing_place bytes offset MissingTrack f refl
