@@ -49,7 +49,11 @@ impl Least {
         ensures least { All (λ (k : ℕ). result ≤ k) self.now }
         ensures among { Contains self.now result }
     {
-        if self.number < self.rival { self.number } else { self.tree[1] }
+        if self.number < self.rival {
+            self.number
+        } else {
+            self.tree[1]
+        }
     }
 
     /// Puts another number in a place, and gives the least of the numbers then.
@@ -91,9 +95,7 @@ fn take_over(
     requires exists { place < count }
     requires tree { IsTree count tree.old }
     ensures tree { IsTree count tree.new }
-    ensures leaves {
-        leaves count tree.new ≡ slice_set (numbers_in count tree.old before waiting) place number
-    }
+    ensures leaves { leaves count tree.new ≡ slice_set (numbers_in count tree.old before waiting) place number }
     ensures others { IsBelowOthers result place (leaves count tree.new) }
 {
     if place != before {
@@ -167,5 +169,9 @@ fn beside(tree: &[u64], at: usize) -> u64
     ensures even { at % 2 ≡ 0 → result ≡ slice_index tree.now (at + 1) }
     ensures odd { at % 2 ≡ 1 → result ≡ slice_index tree.now (at - 1) }
 {
-    if at % 2 == 0 { tree[at + 1] } else { tree[at - 1] }
+    if at % 2 == 0 {
+        tree[at + 1]
+    } else {
+        tree[at - 1]
+    }
 }

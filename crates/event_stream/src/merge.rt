@@ -130,15 +130,11 @@ fn keys_of(cursors: &[Cursor<'_>], tracks: u16) -> Least
 /// Takes the next event of a track, and gives the key of what is left of it.
 fn take_next<'a>(cursors: &mut [Cursor<'a>], track: u16) -> (Option<Event<'a>>, u64)
     requires { track < length cursors.old }
-    ensures some {
-        IfSome result.0 (λ e. left_at track cursors.old ≡ view e ∷ left_at track cursors.new)
-    }
+    ensures some { IfSome result.0 (λ e. left_at track cursors.old ≡ view e ∷ left_at track cursors.new) }
     ensures none { IfNone result.0 (left_at track cursors.old ≡ []) }
     ensures key { result.1 ≡ key_of track (map timed (left_at track cursors.new)) }
-    ensures others {
-        map remaining cursors.new
-            ≡ slice_set (map remaining cursors.old) track (left_at track cursors.new)
-    }
+    ensures others { map remaining cursors.new
+        ≡ slice_set (map remaining cursors.old) track (left_at track cursors.new) }
     ensures all { map all_of cursors.new ≡ map all_of cursors.old }
 {
     let event = cursors[track as usize].next();

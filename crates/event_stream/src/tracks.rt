@@ -51,13 +51,9 @@ impl TrackSet {
         requires open { (text_at self.old event.now.track).ended ≡ false }
         requires order { (text_at self.old event.now.track).tick ≤ event.now.tick }
         ensures appended { OnOk result (self.new ≡ put_into self.old (view event.now)) }
-        ensures stands {
-            (tracks : ℕ) (es : List MidiEvent) → StandFor self.old tracks es
-                → OnOk result (StandFor self.new tracks (es ++ view event.now ∷ []))
-        }
-        ensures grows {
-            all_bytes self.new ≤ all_bytes self.old + most_bytes (view event.now).what
-        }
+        ensures stands { (tracks : ℕ) (es : List MidiEvent) → StandFor self.old tracks es
+            → OnOk result (StandFor self.new tracks (es ++ view event.now ∷ [])) }
+        ensures grows { all_bytes self.new ≤ all_bytes self.old + most_bytes (view event.now).what }
         ensures unchanged { OnErr result (self.new ≡ self.old) }
     {
         self.tracks[event.track as usize].put(event.tick, &event.what)
@@ -67,10 +63,8 @@ impl TrackSet {
     /// they are the list again.
     pub fn into_tracks(self) -> Vec<TrackText>
         ensures tracks { result.items ≡ self }
-        ensures ended {
-            (tracks : ℕ) (es : List MidiEvent) → StandFor self tracks es → IsPlayable tracks es
-                → All (λ (t : Written). t.ended ≡ true) result.items
-        }
+        ensures ended { (tracks : ℕ) (es : List MidiEvent) → StandFor self tracks es → IsPlayable tracks es
+            → All (λ (t : Written). t.ended ≡ true) result.items }
         ensures short { All (λ (t : Written). length t.bytes ≤ all_bytes self) result.items }
         ensures merged_again { PlayableIsMerged }
     {

@@ -116,18 +116,20 @@ missing_place bytes offset kind f m = elim f.fault [
         parts ∙ ap (λ (l : List ℕ). header ++ l) (t.parts ∙ ap (λ (l : List ℕ). t.front ++ l) n.parts ∙ sym (append_assoc t.front n.skipped n.rest)) in
         let sum = ap (λ (l : List ℕ). length l) whole in
         let back_is = ap (λ (l : List ℕ). length l) h.1 in
-        let is : offset ≡ length header + length front = omega (arith, f.place, back_is, sum, length-append header (front ++ n.rest), length-append front n.rest) in
-        (record {
-          header = header;
-          fields = fields;
-          chunks = before.0 ++ n.others;
-          front = front;
-          rest = n.rest;
-          is_header = is_header;
-          are_chunks = append_chunks before.0 n.others t.front n.skipped before.1 (skipped_chunks n.others n.skipped n.are_skipped);
-          parts = whole;
-          place = is;
-        }, omega (arith, is, sum, h.0, length-append header (front ++ n.rest), length-append front n.rest))
+        let is : offset ≡ length header + length front = omega (arith, f.place, back_is, sum, length-append header (front ++ n.rest), length-append front n.rest) in (
+          record {
+            header = header;
+            fields = fields;
+            chunks = before.0 ++ n.others;
+            front = front;
+            rest = n.rest;
+            is_header = is_header;
+            are_chunks = append_chunks before.0 n.others t.front n.skipped before.1 (skipped_chunks n.others n.skipped n.are_skipped);
+            parts = whole;
+            place = is;
+          },
+          omega (arith, is, sum, h.0, length-append header (front ++ n.rest), length-append front n.rest),
+        )
     | inl (inr (name, size, after, head, h)) ↦ absurd (in_bytes size after f.back kind h m)
     | inr (chunk, content, after, inside, is, within, track, back_is) ↦ absurd (in_track content inside kind track m)
   ]

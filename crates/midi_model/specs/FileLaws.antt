@@ -55,7 +55,7 @@ abbrev pub FileOrOneFault : Type 0
 FileOrOneFault = (bytes : List ℕ) →
     ((file : MidiFile) × Spells bytes file × ((other : MidiFile) → Spells bytes other → other ≡ file) × ((offset : ℕ) (kind : SmfKind) → FirstFault bytes offset kind → ⊥))
     ⊎ ((offset : ℕ) × (kind : SmfKind) × FirstFault bytes offset kind
-        × ((at : ℕ) (other : SmfKind) → FirstFault bytes at other → (at ≡ offset) × (other ≡ kind)) × ((file : MidiFile) → Spells bytes file → ⊥))
+    × ((at : ℕ) (other : SmfKind) → FirstFault bytes at other → (at ≡ offset) × (other ≡ kind)) × ((file : MidiFile) → Spells bytes file → ⊥))
 
 -- where fewer than eight bytes are left for a chunk, a chunk should begin
 abbrev pub MissingHasPlace : Type 0

@@ -22,7 +22,7 @@ const TWO_TRACKS: [u8; 63] = [
 
 /// The offset and number of the fault; 0 and 0 where there is none.
 fn answer(alloc: Global, bytes: &[u8]) -> (u32, u8) {
-    if bytes.len() > 4_194_304 {
+    if bytes.len() > midi_model::MOST_BYTES {
         return (u32::MAX, 0);
     }
     match read_smf(alloc, bytes) {
@@ -52,7 +52,7 @@ fn with_tracks(alloc: Global, count: u16) -> Result<Vec<u8>, Fail> {
 
 #[test]
 fn contents_and_their_faults(rt: HostRuntime) -> Result<(), Fail> {
-    let cases: [(&[u8], u32, u8); 15] = [
+    let cases: [(&[u8], u32, u8); 18] = [
         (&[0x80, 0x80, 0, 0xff, 0x2f, 0], 0, 0),
         (&[0x81, 0x82, 0x83, 0x84, 5], 25, 7),
         (
@@ -84,6 +84,22 @@ fn contents_and_their_faults(rt: HostRuntime) -> Result<(), Fail> {
         (&[0, 0x90, 0x45, 0x40], 26, 11),
         (&[0, 0x90, 0x45, 0x40, 0, 0xf7, 1, 0xf7, 0, 0x45, 0], 31, 8),
         (&[0, 0xff, 0x2f, 0, 0xff, 0xff], 0, 0),
+        // Short messages: the last tick and the one after it, a delta of two bytes, a data byte too high.
+        (
+            &[
+                0xff, 0xff, 0xff, 0x7e, 0x90, 0x45, 0x40, 1, 0x45, 0x40, 1, 0x45, 0,
+            ],
+            32,
+            12,
+        ),
+        (
+            &[
+                0, 0x90, 0x45, 0x40, 0x81, 0, 0x45, 0, 1, 0x80, 0x45, 0x40, 0, 0xff, 0x2f, 0,
+            ],
+            0,
+            0,
+        ),
+        (&[0, 0x90, 0x45, 0x40, 0x81, 0, 0x45, 0x80, 0], 29, 10),
     ];
     for (content, offset, kind) in cases {
         let bytes = with_content(rt.alloc(), content)?;

@@ -126,14 +126,10 @@ pub fn push_head(bytes: &mut Vec<u8>, delta: u32, running: u8, what: &What<'_>)
     requires range { delta < 2 ^ 28 }
     requires valid { IsValidWhat (view_what what.now) }
     requires room { vec_len bytes.old + 10 ≤ vec_capacity bytes.old }
-    ensures bytes {
-        bytes.new.items ++ content_of (view_what what.now)
-            ≡ bytes.old.items ++ (quantity_bytes delta ++ body_bytes running (view_what what.now))
-    }
-    ensures grows {
-        vec_len bytes.new + length (content_of (view_what what.now))
-            ≤ vec_len bytes.old + most_bytes (view_what what.now)
-    }
+    ensures bytes { bytes.new.items ++ content_of (view_what what.now)
+        ≡ bytes.old.items ++ (quantity_bytes delta ++ body_bytes running (view_what what.now)) }
+    ensures grows { vec_len bytes.new + length (content_of (view_what what.now))
+        ≤ vec_len bytes.old + most_bytes (view_what what.now) }
     ensures capacity { vec_capacity bytes.new ≡ vec_capacity bytes.old }
 {
     push_quantity(bytes, delta);

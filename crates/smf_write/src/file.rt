@@ -5,7 +5,7 @@ ghost use Rattle.midi_model.specs.Writing.{Written, written, header_bytes, chunk
 ghost use Rattle.smf_write.specs.Content.{file_of};
 
 use crate::text::TrackText;
-use midi_model::{MTHD, MTRK, MOST_TRACKS, writing_laws};
+use midi_model::{MOST_TRACKS, MTHD, MTRK, writing_laws};
 use mt_base::Memory;
 use std::alloc::Global;
 
@@ -27,14 +27,10 @@ pub fn finish(
     requires ended { All (λ (t : Written). t.ended ≡ true) tracks.items }
     requires short { All (λ (t : Written). length t.bytes < 2 ^ 32) tracks.items }
     requires formats { ((format ≡ 0) × (length tracks.items ≡ 1)) ⊎ (format ≡ 1) }
-    ensures bytes {
-        (ts : List (List Timed)) → tracks.items ≡ map written ts
-            → IfOk result (λ v. v.items ≡ file_bytes (file_of format division ts))
-    }
-    ensures spells {
-        (ts : List (List Timed)) → tracks.items ≡ map written ts → All (IsWritable 0) ts
-            → IfOk result (λ v. Spells v.items (file_of format division ts))
-    }
+    ensures bytes { (ts : List (List Timed)) → tracks.items ≡ map written ts
+        → IfOk result (λ v. v.items ≡ file_bytes (file_of format division ts)) }
+    ensures spells { (ts : List (List Timed)) → tracks.items ≡ map written ts → All (IsWritable 0) ts
+        → IfOk result (λ v. Spells v.items (file_of format division ts)) }
 {
     writing_laws();
     let mut out = Vec::with_capacity(alloc, file_len(&tracks))?;

@@ -10,13 +10,9 @@ use midi_model::{file_laws, writing_laws};
 /// spelling of a quantity has fewer bytes than the one that is written.
 pub fn written_is_read()
     ensures spells { WrittenIsSpelt }
-    ensures only {
-        (file other : MidiFile) → IsWritableFile file → Spells (file_bytes file) other
-            → other ≡ file
-    }
-    ensures again {
-        (file : MidiFile) → IsWritableFile file → file_at (file_bytes file) ≡ Ok file
-    }
+    ensures only { (file other : MidiFile) → IsWritableFile file → Spells (file_bytes file) other
+        → other ≡ file }
+    ensures again { (file : MidiFile) → IsWritableFile file → file_at (file_bytes file) ≡ Ok file }
     ensures shortest { QuantityIsShortest }
 {
     file_laws();

@@ -81,16 +81,10 @@ impl TrackText {
         requires valid { IsValidWhat (view_what what.now) }
         requires open { self.old.ended ≡ false }
         ensures appended { OnOk result (self.new ≡ with_event self.old (timed tick what.now)) }
-        ensures stands {
-            (es : List Timed) → self.old ≡ written es
-                → OnOk result (self.new ≡ written (es ++ timed tick what.now ∷ []))
-        }
-        ensures last {
-            OnOk result ((self.new.tick ≡ tick) × (self.new.ended ≡ is_end (view_what what.now)))
-        }
-        ensures grows {
-            length self.new.bytes ≤ length self.old.bytes + most_bytes (view_what what.now)
-        }
+        ensures stands { (es : List Timed) → self.old ≡ written es
+            → OnOk result (self.new ≡ written (es ++ timed tick what.now ∷ [])) }
+        ensures last { OnOk result ((self.new.tick ≡ tick) × (self.new.ended ≡ is_end (view_what what.now))) }
+        ensures grows { length self.new.bytes ≤ length self.old.bytes + most_bytes (view_what what.now) }
         ensures unchanged { OnErr result (self.new ≡ self.old) }
     {
         writing_laws();
@@ -107,13 +101,9 @@ impl TrackText {
 fn append(bytes: &mut Vec<u8>, delta: u32, running: u8, what: &What<'_>) -> Result<(), Memory>
     requires range { delta < 2 ^ 28 }
     requires valid { IsValidWhat (view_what what.now) }
-    ensures appended {
-        OnOk result (bytes.new.items
-            ≡ bytes.old.items ++ (quantity_bytes delta ++ body_bytes running (view_what what.now)))
-    }
-    ensures grows {
-        length bytes.new.items ≤ length bytes.old.items + most_bytes (view_what what.now)
-    }
+    ensures appended { OnOk result (bytes.new.items
+        ≡ bytes.old.items ++ (quantity_bytes delta ++ body_bytes running (view_what what.now))) }
+    ensures grows { length bytes.new.items ≤ length bytes.old.items + most_bytes (view_what what.now) }
     ensures unchanged { OnErr result (bytes.new.items ≡ bytes.old.items) }
 {
     let content = content(what);
