@@ -13,59 +13,60 @@ ghost use Rattle.receiver.specs.Stands.{HasRoom, states_of, selected_in, set_up_
 
 use crate::receiver::Receiver;
 use crate::role::Selected;
-use crate::strokes::channel_number;
-use mt_base::Msg;
+use crate::strokes::{channel_at, channel_number};
+use mt_base::{Channel, Msg};
 
 // What a message does to the channels and the zones, before the notes end that nothing holds.
 impl Receiver {
-    /// How many members a controller asks a zone for, which is the lower one on the first channel and the upper
-    /// one on the last. More than 15 count as 15.
-    fn asked(&self, channel: u8, number: u8, value: u8) -> Option<u8>
-        requires channel { channel < 16 }
+    /// How many members a controller asks a zone for, which is the lower one on the first channel
+    /// and the upper one on the last. More than 15 count as 15.
+    fn asked(&self, channel: Channel, number: u8, value: u8) -> Option<u8>
         ensures asked { option_map (λ n. (channel, n)) result
             ≡ asks (set_up_of self.now) (Control channel number value) }
         ensures few { IfSome result (λ n. n ≤ 15) }
         ensures place { is_some result ≡ true → (channel ≡ 0) ⊎ (channel ≡ 15) }
     {
-        if number != 6 || (channel != 0 && channel != 15) {
+        let place = channel.number();
+        if number != 6 || (place != 0 && place != 15) {
             return None;
         }
-        match self.channels[channel as usize].state.target() {
+        match self.channels[place as usize].state.target() {
             Selected::Zone => Some(if value < 15 { value } else { 15 }),
             _ => None,
         }
     }
 
-    /// The bend sensitivity that setting a zone gives a channel: 2 semitones to its master, 48 to a member.
-    fn give_range(&mut self, master: u8, channel: u8)
-        requires { channel < 16 }
+    /// The bend sensitivity that setting a zone gives a channel: 2 semitones to its master, 48 to a
+    /// member.
+    fn give_range(&mut self, master: Channel, channel: Channel)
         ensures notes { NotesStay self.old self.new }
         ensures states { states_of self.new
             ≡ ranged_at (zones_in self.old.zones) master channel (states_of self.old) }
         ensures rest { SameBesideStates self.old self.new }
     {
-        if channel == master {
-            self.channels[channel as usize].bend_range(2);
-        } else if self.zones.governor(channel) == master {
-            self.channels[channel as usize].bend_range(48);
+        let place = channel.number();
+        let owner = master.number();
+        if place == owner {
+            self.channels[place as usize].bend_range(2);
+        } else if self.zones.governor(channel) == owner {
+            self.channels[place as usize].bend_range(48);
         }
     }
 
     /// The bend sensitivities that setting a zone gives.
-    fn give_ranges(&mut self, master: u8)
-        requires { master < 16 }
+    fn give_ranges(&mut self, master: Channel)
         ensures notes { NotesStay self.old self.new }
         ensures states { states_of self.new
             ≡ bend_ranges_from (zones_in self.old.zones) master 0 (states_of self.old) }
         ensures rest { SameBesideStates self.old self.new }
     {
-        for channel in 0..16u8 {
-            self.give_range(master, channel);
+        for number in 0..16u8 {
+            self.give_range(master, channel_at(number));
         }
     }
 
     /// Sets a zone, or switches it off.
-    fn set_zone(&mut self, master: u8, members: u8)
+    fn set_zone(&mut self, master: Channel, members: u8)
         requires few { members ≤ 15 }
         requires place { (master ≡ 0) ⊎ (master ≡ 15) }
         ensures notes { NotesStay self.old self.new }
@@ -76,7 +77,7 @@ impl Receiver {
         ensures begun { self.new.begun ≡ self.old.begun }
         ensures tunings { self.new.tunings ≡ self.old.tunings }
     {
-        self.zones.set(master == 0, members);
+        self.zones.set(master.number() == 0, members);
         if members > 0 {
             self.give_ranges(master);
         }
@@ -98,9 +99,8 @@ impl Receiver {
     }
 
     /// A controller: the message, and what it has.
-    fn control(&mut self, tick: u32, message: &Msg, channel: u8, number: u8, value: u8)
+    fn control(&mut self, tick: u32, message: &Msg, channel: Channel, number: u8, value: u8)
         requires same { message.now ≡ Control channel number value }
-        requires channel { channel < 16 }
         requires valid { IsValidMsg (Control channel number value) }
         requires room { HasRoom self.old (Says (Control channel number value)) }
         ensures notes { SlotsBecome (turned_by_control (set_up_of self.old) tick channel number value)
@@ -135,7 +135,7 @@ impl Receiver {
         ensures begun { self.new.begun ≡ (if begins_by message.now then self.old.begun + 1 else self.old.begun) }
         ensures tunings { self.new.tunings ≡ self.old.tunings }
     {
-        let channel = channel_number(message);
+        let channel = message.channel();
         match *message {
             Msg::NoteOn { key, velocity, .. } => {
                 if velocity == 0 {

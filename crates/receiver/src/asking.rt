@@ -28,7 +28,8 @@ impl Receiver {
         self.channels[channel.number() as usize].keys.note(key)
     }
 
-    /// The bends of a channel's notes, in grains: its own, and for a zone's member its master's too.
+    /// The bends of a channel's notes, in grains: its own, and for a zone's member its master's
+    /// too.
     fn bends(&self, channel: Channel) -> i128
         ensures bends { (es : List MidiEvent) → Stands self.now es
             → result ≡ bends (after es) channel (master (after es).music.zones channel) }
@@ -52,7 +53,7 @@ impl Receiver {
         if !own.keys.is_sounding(key) {
             return None;
         }
-        let governor = &self.channels[self.zones.governor(channel.number()) as usize].state;
+        let governor = &self.channels[self.zones.governor(channel) as usize].state;
         let tuned = by_program(&self.tunings, governor.tuning, key);
         Some(Grain(tuned + governor.fine() + governor.coarse() + self.bends(channel)))
     }

@@ -23,8 +23,8 @@ impl ChannelState {
         }
     }
 
-    /// What data entry of a byte gives: the parameter that is selected, with this byte in its value. It gives nothing where no
-    /// parameter is selected that has a value.
+    /// What data entry of a byte gives: the parameter that is selected, with this byte in its
+    /// value. It gives nothing where no parameter is selected that has a value.
     fn entered(&self, byte: DataByte, value: u8) -> Option<Param>
         requires { value ≤ 127 }
         ensures params { given_by result (own_of self.now).params ≡ (entered byte value (own_of self.now)).params }

@@ -1,5 +1,5 @@
-//! A receiver of MIDI events: what each channel's state is, what sounds and at what pitch, and what ends. All
-//! sizes are fixed, and nothing here takes memory.
+//! A receiver of MIDI events: what each channel's state is, what sounds and at what pitch, and what
+//! ends. All sizes are fixed, and nothing here takes memory.
 #![tactic(auto)]
 
 mod acting;

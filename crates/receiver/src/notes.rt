@@ -9,7 +9,9 @@ ghost use Rattle.receiver.specs.Stands.{states_of, selected_in, set_up_of};
 use crate::note::Struck;
 use crate::receiver::Receiver;
 use crate::role::{Purpose, purpose_of};
+use crate::strokes::channel_at;
 use crate::turn::Turn;
+use mt_base::Channel;
 
 /// A pedal is down at 64 and more.
 pub(crate) fn is_down(value: u8) -> bool
@@ -21,38 +23,34 @@ pub(crate) fn is_down(value: u8) -> bool
 // What messages do to the notes that sound.
 impl Receiver {
     /// A note off.
-    pub(crate) fn release(&mut self, channel: u8, key: u8, tick: u32, velocity: u8)
-        requires channel { channel < 16 }
+    pub(crate) fn release(&mut self, channel: Channel, key: u8, tick: u32, velocity: u8)
         requires key { key < 128 }
         ensures notes { NotesBecome (release_key tick channel key velocity) self.old self.new }
         ensures rest { SameSetUp self.old self.new }
     {
-        self.channels[channel as usize].release(key, tick, velocity);
+        self.channels[channel.number() as usize].release(key, tick, velocity);
     }
 
     /// Key pressure.
-    pub(crate) fn press(&mut self, channel: u8, key: u8, value: u8)
-        requires channel { channel < 16 }
+    pub(crate) fn press(&mut self, channel: Channel, key: u8, value: u8)
         requires key { key < 128 }
         requires value { value ≤ 127 }
         ensures notes { NotesBecome (with_pressure channel key value) self.old self.new }
         ensures rest { SameSetUp self.old self.new }
     {
-        self.channels[channel as usize].press(key, value);
+        self.channels[channel.number() as usize].press(key, value);
     }
 
     /// The pressures of the channel's keys are 0.
-    fn relax(&mut self, channel: u8)
-        requires channel { channel < 16 }
+    fn relax(&mut self, channel: Channel)
         ensures notes { NotesBecome (without_pressure channel) self.old self.new }
         ensures rest { SameSetUp self.old self.new }
     {
-        self.channels[channel as usize].relax();
+        self.channels[channel.number() as usize].relax();
     }
 
     /// A note on whose velocity isn't 0.
-    pub(crate) fn strike(&mut self, channel: u8, key: u8, tick: u32, velocity: u8)
-        requires channel { channel < 16 }
+    pub(crate) fn strike(&mut self, channel: Channel, key: u8, tick: u32, velocity: u8)
         requires key { key < 128 }
         requires few { self.old.begun < 4294967295 }
         ensures notes { SlotsBecome (struck (self.old.begun + 1) (begun (set_up_of self.old) tick channel key velocity))
@@ -74,17 +72,15 @@ impl Receiver {
             voice,
             release: (0, 0),
         };
-        self.channels[channel as usize].strike(key, struck);
+        self.channels[channel.number() as usize].strike(key, struck);
     }
 
-    /// Whether a controller of a channel reaches the notes of another or of itself: those that it governs, and
-    /// where all notes end or go up, its own too.
-    fn reaches(&self, turn: Turn, channel: u8, other: u8) -> bool
-        requires channel { channel < 16 }
-        requires other { other < 16 }
+    /// Whether a controller of a channel reaches the notes of another or of itself: those that it
+    /// governs, and where all notes end or go up, its own too.
+    fn reaches(&self, turn: Turn, channel: Channel, other: Channel) -> bool
         ensures { result ≡ reaches turn (zones_in self.now.zones) channel other }
     {
-        let governed = self.zones.governor(other) == channel;
+        let governed = self.zones.governor(other) == channel.number();
         match turn {
             Turn::SoundOff | Turn::NotesOff => governed || other == channel,
             Turn::Capture | Turn::Free => governed,
@@ -92,36 +88,35 @@ impl Receiver {
     }
 
     /// A controller of a channel turns the notes of another, or its own, where it reaches them.
-    fn turn_one(&mut self, turn: Turn, channel: u8, other: u8, tick: u32)
-        requires channel { channel < 16 }
-        requires other { other < 16 }
+    fn turn_one(&mut self, turn: Turn, channel: Channel, other: Channel, tick: u32)
         ensures notes { SlotsBecome (only_on other (turn_of turn tick (zones_in self.old.zones) channel))
             self.old self.new }
         ensures rest { SameSetUp self.old self.new }
     {
         if self.reaches(turn, channel, other) {
-            self.channels[other as usize].turn(turn, tick);
+            self.channels[other.number() as usize].turn(turn, tick);
         }
     }
 
     /// A controller of a channel turns the notes of all channels that it reaches.
-    fn turn(&mut self, turn: Turn, channel: u8, tick: u32)
-        requires channel { channel < 16 }
+    fn turn(&mut self, turn: Turn, channel: Channel, tick: u32)
         ensures notes { NotesBecome (turn_of turn tick (zones_in self.old.zones) channel) self.old self.new }
         ensures rest { SameSetUp self.old self.new }
     {
-        for other in 0..16u8 {
-            self.turn_one(turn, channel, other, tick);
+        for number in 0..16u8 {
+            self.turn_one(turn, channel, channel_at(number), tick);
         }
     }
 
     /// The sostenuto pedal, controller 66, of a channel.
-    fn sostenuto(&mut self, channel: u8, value: u8, tick: u32)
-        requires channel { channel < 16 }
+    fn sostenuto(&mut self, channel: Channel, value: u8, tick: u32)
         ensures notes { NotesBecome (sostenuto_by (set_up_of self.old) channel value) self.old self.new }
         ensures rest { SameSetUp self.old self.new }
     {
-        let before = self.channels[channel as usize].state.controls.get(66);
+        let before = self.channels[channel.number() as usize]
+            .state
+            .controls
+            .get(66);
         if is_down(before) {
             if !is_down(value) {
                 self.turn(Turn::Free, channel, tick);
@@ -132,8 +127,7 @@ impl Receiver {
     }
 
     /// What a controller does to the notes, before what nothing holds ends.
-    pub(crate) fn turn_notes(&mut self, channel: u8, number: u8, value: u8, tick: u32)
-        requires channel { channel < 16 }
+    pub(crate) fn turn_notes(&mut self, channel: Channel, number: u8, value: u8, tick: u32)
         ensures notes { SlotsBecome (turned_by_control (set_up_of self.old) tick channel number value)
             self.old self.new }
         ensures rest { SameSetUp self.old self.new }
@@ -155,8 +149,7 @@ impl Receiver {
     }
 
     /// The notes of a channel end that nothing holds.
-    fn settle_one(&mut self, channel: u8)
-        requires { channel < 16 }
+    fn settle_one(&mut self, channel: Channel)
         ensures notes { (t : ℕ) → SlotsBecome (only_on channel (settled_by (set_up_of self.old) t))
             self.old self.new }
         ensures rest { SameSetUp self.old self.new }
@@ -164,7 +157,7 @@ impl Receiver {
         let governor = self.zones.governor(channel);
         let pedal = self.channels[governor as usize].state.controls.get(64);
         if !is_down(pedal) {
-            self.channels[channel as usize].lift_pedal();
+            self.channels[channel.number() as usize].lift_pedal();
         }
     }
 
@@ -173,8 +166,8 @@ impl Receiver {
         ensures notes { (t : ℕ) → NotesBecome (settled_by (set_up_of self.old) t) self.old self.new }
         ensures rest { SameSetUp self.old self.new }
     {
-        for channel in 0..16u8 {
-            self.settle_one(channel);
+        for number in 0..16u8 {
+            self.settle_one(channel_at(number));
         }
     }
 }

@@ -5,7 +5,8 @@ ghost use Rattle.receiver.specs.Params.{rank_at, parameter_of, numbered, entries
 use crate::param::{Param, default_of, rank_of};
 use arrayvec::ArrayVec;
 
-/// The place of the parameter of this rank in a list; where there is none, the place at which it belongs.
+/// The place of the parameter of this rank in a list; where there is none, the place at which it
+/// belongs.
 fn place(others: &[Param], rank: u16) -> Result<usize, usize>
     ensures found { IfOk result (λ at. (at < length others.now) × (slice_index (map rank_at others.now) at ≡ rank)) }
     ensures before { IfOk result (λ at. (k : ℕ) → k < at → slice_index (map rank_at others.now) k < rank) }

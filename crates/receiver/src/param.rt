@@ -3,8 +3,8 @@ ghost use Rattle.midi_model.specs.Params.{rank, default_value, pair_eq, rpn};
 ghost use Rattle.receiver.specs.Kept.{is_apart};
 ghost use Rattle.receiver.specs.Params.{numbered, parameter_of};
 
-/// A registered (RPN) or non-registered (NRPN) parameter by its number's MSB and LSB, and its value: the MSB
-/// and the LSB of data entry.
+/// A registered (RPN) or non-registered (NRPN) parameter by its number's MSB and LSB, and its
+/// value: the MSB and the LSB of data entry.
 #[derive(Clone, Copy, Debug, Default)]
 pub struct Param {
     pub registered: bool,

@@ -6,8 +6,8 @@ ghost use Rattle.receiver.specs.Tunings.{value_in};
 use crate::state::ChannelState;
 use crate::tunings::Tunings;
 
-/// The pitch of a key by the tuning program that is selected, in grains above key 0: the value that the key has there,
-/// in steps of 1/16384 semitone, else that of equal temperament.
+/// The pitch of a key by the tuning program that is selected, in grains above key 0: the value that
+/// the key has there, in steps of 1/16384 semitone, else that of equal temperament.
 pub(crate) fn by_program(tunings: &Tunings, program: Option<u8>, key: u8) -> i128
     requires program { (v : ℕ) → program ≡ Some v → v ≤ 127 }
     requires key { key < 128 }
@@ -48,7 +48,8 @@ impl ChannelState {
         3_200_000_000_000 * (self.value(true, 0, 2).0 as i128 - 64)
     }
 
-    /// The bend, in grains: the sensitivity, RPN 0, in semitones and hundredths, in 8,192 steps around 8192.
+    /// The bend, in grains: the sensitivity, RPN 0, in semitones and hundredths, in 8,192 steps
+    /// around 8192.
     pub(crate) fn bent(&self) -> i128
         ensures bend { result ≡ bent (own_of self.now) }
         ensures low { neg_ℤ (pos (2 ^ 64)) ≤ℤ result }

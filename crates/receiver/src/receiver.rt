@@ -10,8 +10,8 @@ use midi_model::receiver_laws;
 use mt_base::{Msg, What};
 use mts_msg::{is_reset, read_tuning};
 
-/// A receiver of MIDI events: sixteen channels, the notes that sound on them, the zones of MIDI Polyphonic
-/// Expression and the tuning programs.
+/// A receiver of MIDI events: sixteen channels, the notes that sound on them, the zones of MIDI
+/// Polyphonic Expression and the tuning programs.
 #[derive(Drop)]
 pub struct Receiver {
     pub(crate) channels: [Playing; 16],
@@ -165,8 +165,8 @@ impl Receiver {
         }
     }
 
-    /// Takes an event at its tick, and tells which notes ended by it. The event has room, and fewer than
-    /// 4,294,967,295 notes began before it.
+    /// Takes an event at its tick, and tells which notes ended by it. The event has room, and fewer
+    /// than 4,294,967,295 notes began before it.
     pub fn step(&mut self, tick: u32, what: &What<'_>) -> Ends
         requires valid { IsValidWhat (view_what what.now) }
         requires room { HasRoom self.old (view_what what.now) }

@@ -16,8 +16,8 @@ pub struct Voice {
     pub program: u8,
 }
 
-/// The state of one channel. Its tables are over the same defaults in all states: those of the controllers, and 0 for
-/// each key. Bytes are at most 127 and the bend at most 16,383.
+/// The state of one channel. Its tables are over the same defaults in all states: those of the
+/// controllers, and 0 for each key. Bytes are at most 127 and the bend at most 16,383.
 #[derive(Drop)]
 pub struct ChannelState {
     /// The controllers by number. Those that a channel keeps no value of (6, 38, 96 to 101) stay 0.
@@ -26,7 +26,8 @@ pub struct ChannelState {
     pub keys: Tab<128>,
     /// The registered parameters 0, 1, 2 and 5.
     pub fixed: [(u8, u8); 4],
-    /// All other parameters that aren't at their defaults: the registered ones first, then by MSB and LSB.
+    /// All other parameters that aren't at their defaults: the registered ones first, then by MSB
+    /// and LSB.
     pub others: ArrayVec<Param, 16>,
     pub rpn: (u8, u8),
     pub nrpn: (u8, u8),
@@ -116,8 +117,8 @@ impl ChannelState {
         }
     }
 
-    /// Each state is one that a channel can be in, and at most 16 of its parameters count. The function does nothing: its
-    /// contract is what is stated.
+    /// Each state is one that a channel can be in, and at most 16 of its parameters count. The
+    /// function does nothing: its contract is what is stated.
     pub fn well_formed(&self)
         ensures formed { IsWellFormed (state_of self.now) }
         ensures few { counted (own_of self.now) ≤ 16 }

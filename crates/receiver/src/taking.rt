@@ -62,7 +62,8 @@ impl ChannelState {
         }
     }
 
-    /// Takes a message to this channel. The pressures of its keys stay as they are: they depend on what sounds.
+    /// Takes a message to this channel. The pressures of its keys stay as they are: they depend on
+    /// what sounds.
     pub fn apply(&mut self, message: Msg)
         requires valid { IsValidMsg message }
         requires room { counted (apply (own_of self.old) message) ≤ 16 }

@@ -2,7 +2,8 @@ ghost use Rattle.std.specs.Prelude.{◌≡◌, ◌<◌, ◌≤◌, ℕ, None, re
 
 use mts_msg::Tuning;
 
-/// The tuning programs: by 128 * program + key the value of the key, in steps of 1/16384 semitone above key 0.
+/// The tuning programs: by 128 * program + key the value of the key, in steps of 1/16384 semitone
+/// above key 0.
 #[derive(Drop)]
 pub(crate) struct Tunings {
     values: [Option<u32>; 16384],

@@ -117,7 +117,8 @@ impl ChannelState {
         });
     }
 
-    /// The parameters that aren't at their defaults: the registered ones first, then by MSB and LSB.
+    /// The parameters that aren't at their defaults: the registered ones first, then by MSB and
+    /// LSB.
     pub fn params(&self) -> ArrayVec<Param, 20>
         ensures { entries_of result.items ≡ (own_of self.now).params }
     {

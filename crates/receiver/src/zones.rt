@@ -3,8 +3,9 @@ ghost use Rattle.midi_model.specs.Zones.{left_beside};
 
 use mt_base::Channel;
 
-/// The two zones of MIDI Polyphonic Expression: how many members each has, 0 where it is off. The lower
-/// one's master is the first channel, with members upward; the upper one's is the last, with members downward.
+/// The two zones of MIDI Polyphonic Expression: how many members each has, 0 where it is off. The
+/// lower one's master is the first channel, with members upward; the upper one's is the last, with
+/// members downward.
 #[derive(Clone, Copy, Debug)]
 pub(crate) struct ZoneSizes {
     pub lower: u8,
@@ -30,17 +31,13 @@ impl ZoneSizes {
     }
 
     /// The channel whose voice, controllers, pedals and tuning the channel's notes have.
-    pub fn governor(&self, channel: u8) -> u8
-        requires { channel < 16 }
+    pub fn governor(&self, channel: Channel) -> u8
         ensures value { result ≡ governor (zones_in self.now) channel }
         ensures bound { result < 16 }
     {
-        if channel >= 1 && channel <= self.lower {
-            0
-        } else if channel < 15 && channel as u16 + self.upper as u16 >= 15 {
-            15
-        } else {
-            channel
+        match self.master(channel) {
+            Some(master) => master.number(),
+            None => channel.number(),
         }
     }
 

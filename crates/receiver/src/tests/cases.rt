@@ -8,7 +8,8 @@ use std::process::Abort;
 /// An event at its tick, and the notes that it ends, by channel and key.
 pub type Turn = (u32, Said, &'static [(u8, u8)]);
 
-/// A note that sounds: channel and key; number, onset, velocity and program; its release; whether it is captured.
+/// A note that sounds: channel and key; number, onset, velocity and program; its release; whether
+/// it is captured.
 pub type Sounds = ((u8, u8), (u32, u32, u8, u8), Option<(u32, u8)>, bool);
 
 /// A list of events, and what holds after it.
@@ -28,9 +29,11 @@ pub enum Fact {
     Wheel(u8, u16),
     /// Both bytes of the bank, and the program.
     Voice(u8, (u8, u8, u8)),
-    /// The pairs selected last: registered, non-registered, and whether the registered one came last.
+    /// The pairs selected last: registered, non-registered, and whether the registered one came
+    /// last.
     Selection(u8, (u8, u8), (u8, u8), bool),
-    /// Bend sensitivity, fine tuning, coarse tuning and modulation depth, by their place in this list.
+    /// Bend sensitivity, fine tuning, coarse tuning and modulation depth, by their place in this
+    /// list.
     Fixed(u8, usize, (u8, u8)),
     /// How many other parameters aren't at their defaults.
     Others(u8, usize),

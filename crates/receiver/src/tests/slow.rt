@@ -53,7 +53,8 @@ pub struct SetUp {
     upper: u8,
 }
 
-/// A receiver that keeps all notes in the order of their note ons and looks at each of them at each event.
+/// A receiver that keeps all notes in the order of their note ons and looks at each of them at each
+/// event.
 #[derive(Drop)]
 pub struct Slow {
     pub notes: Vec<SlowNote>,

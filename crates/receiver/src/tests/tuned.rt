@@ -35,7 +35,8 @@ fn pitch(player: &Player, channel: u8, key: u8) -> Option<i128> {
     }
 }
 
-/// Key 69, 81 or 60 of equal temperament, a semitone, and what a step of the wheel is at a range of one semitone.
+/// Key 69, 81 or 60 of equal temperament, a semitone, and what a step of the wheel is at a range of
+/// one semitone.
 const A: i128 = 220_800_000_000_000;
 
 const HIGH_A: i128 = 259_200_000_000_000;
@@ -55,7 +56,8 @@ fn a_note_plays_its_tuning_with_all_bends(rt: HostRuntime) {
     assert_eq!(rt; pitch(&player, 0, 69), Some(A));
     assert_eq!(rt; pitch(&player, 0, 81), Some(HIGH_A));
     assert_eq!(rt; pitch(&player, 0, 70), None);
-    // a dump of key 69 alone, a quarter of a semitone high, to program 5, and a change of key 60 in it
+    // a dump of key 69 alone, a quarter of a semitone high, to program 5, and a change of key 60 in
+    // it
     let mut values = [None; 128];
     values[69] = Some(69 * 16384 + 4096);
     let bytes = dump(5, &values);
@@ -150,7 +152,8 @@ fn a_member_has_its_masters_tuning_and_both_bends(rt: HostRuntime) {
     let bytes = note_change(7, 69, 70 * 16384);
     assert!(rt; take_system(&mut player, bytes.as_slice()));
     assert_eq!(rt; pitch(&player, 1, 69), Some(A + SEMITONE + STEP));
-    // ten steps of the member's wheel are 480 steps of a semitone each, a hundred of the master's 200
+    // ten steps of the member's wheel are 480 steps of a semitone each, a hundred of the master's
+    // 200
     assert!(rt; take_all(&mut player, &[Bend(1, 8202), Bend(0, 8292)]));
     assert_eq!(rt;
         pitch(&player, 1, 69),

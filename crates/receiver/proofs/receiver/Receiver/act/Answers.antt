@@ -8,12 +8,12 @@ use Rattle.receiver.proofs.receiver.Receiver.act.Goals as goal
 
 pub returns-then-velocity-eq0-clause-notes : goal.returns-then-velocity-eq0-clause-notes
 returns-then-velocity-eq0-clause-notes c d k dl kl =
-    let e = c.channel_number-channel.ensures.value ∙ ap channel_of c.in-NoteOn.is in
+    let e = c.channel-channel.ensures ∙ ap channel_of c.in-NoteOn.is in
     rw (c.in-NoteOn.is, c.if-velocity-eq0.true, sym e) (c.release.ensures.notes d k dl kl)
 
 pub returns-else-velocity-eq0-clause-notes : goal.returns-else-velocity-eq0-clause-notes
 returns-else-velocity-eq0-clause-notes c d k dl kl =
-    let e = c.channel_number-channel.ensures.value ∙ ap channel_of c.in-NoteOn.is in
+    let e = c.channel-channel.ensures ∙ ap channel_of c.in-NoteOn.is in
     let m = set_up_of c.args.self.now in
     let n = c.args.self.now.begun + 1 in
     let k' = c.in-NoteOn.key in
@@ -28,17 +28,17 @@ returns-else-velocity-eq0-clause-begun c = rw c.in-NoteOn.is (c.strike.ensures.b
 
 pub returns-in-NoteOff-clause-notes : goal.returns-in-NoteOff-clause-notes
 returns-in-NoteOff-clause-notes c d k dl kl =
-    let e = c.channel_number-channel.ensures.value ∙ ap channel_of c.in-NoteOff.is in
+    let e = c.channel-channel.ensures ∙ ap channel_of c.in-NoteOff.is in
     rw (c.in-NoteOff.is, sym e) (c.release-in-NoteOff.ensures.notes d k dl kl)
 
 pub returns-in-KeyPressure-clause-notes : goal.returns-in-KeyPressure-clause-notes
 returns-in-KeyPressure-clause-notes c d k dl kl =
-    let e = c.channel_number-channel.ensures.value ∙ ap channel_of c.in-KeyPressure.is in
+    let e = c.channel-channel.ensures ∙ ap channel_of c.in-KeyPressure.is in
     rw (c.in-KeyPressure.is, sym e) (c.press.ensures.notes d k dl kl)
 
 pub returns-in-Control-clause-notes : goal.returns-in-Control-clause-notes
 returns-in-Control-clause-notes c d k dl kl =
-    let e = c.channel_number-channel.ensures.value ∙ ap channel_of c.in-Control.is in
+    let e = c.channel-channel.ensures ∙ ap channel_of c.in-Control.is in
     rw (c.in-Control.is, sym e) (c.control.ensures.notes d k dl kl)
 
 pub returns-in-Program-clause-notes : goal.returns-in-Program-clause-notes

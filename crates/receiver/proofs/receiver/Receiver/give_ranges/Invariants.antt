@@ -6,11 +6,11 @@ use Rattle.receiver.specs.Zones.{zones_in}
 use Rattle.receiver.proofs.Here.{slot_in}
 use Rattle.receiver.proofs.receiver.Receiver.give_ranges.Given as goal
 
-abbrev pub invariant-loop-channel : goal.invariant-loop-channel
-invariant-loop-channel l = let old = l.fn.self in record {
+abbrev pub invariant-loop-number : goal.invariant-loop-number
+invariant-loop-number l = let old = l.fn.self in record {
   many : length (states_of l.self) ≡ 16;
   notes : (c k : ℕ) → c < 16 → k < 128 → slot_in l.self.channels c k ≡ slot_in old.channels c k;
-  states : (c : ℕ) → c < 16 → get_or (states_of l.self) c default_channel ≡ cond (nat_lt c l.channel) (bend_range_at (zones_in old.zones) l.master c (get_or (states_of old) c default_channel)) (get_or (states_of old) c default_channel);
+  states : (c : ℕ) → c < 16 → get_or (states_of l.self) c default_channel ≡ cond (nat_lt c l.number) (bend_range_at (zones_in old.zones) l.master c (get_or (states_of old) c default_channel)) (get_or (states_of old) c default_channel);
   selected : selected_in l.self ≡ selected_in old;
   zones : l.self.zones ≡ old.zones;
   begun : l.self.begun ≡ old.begun;

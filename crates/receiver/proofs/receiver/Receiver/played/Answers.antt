@@ -16,7 +16,7 @@ returns c = λ es stands.
     let below : c.args.key < 128 = omega (arith, c.requires) in
     let g : ℕ = governor (after es).music.zones c.args.channel in
     let to_g : c.governor.result ≡ g =
-    c.governor.ensures.value ∙ ap (governor _) c.number-2.ensures.value ∙ ap (λ z. governor z c.args.channel) stands.zones in
+    c.governor.ensures.value ∙ ap (λ z. governor z c.args.channel) stands.zones in
     let g_low : g < 16 = omega (arith, to_g, c.governor.ensures.bound) in
     let own = own_stands r es g c.governor.result c.index-self-governor.result stands all g_low to_g in
     let selected = selected_stands r es g c.governor.result c.index-self-governor.result stands all g_low to_g in

@@ -1,12 +1,12 @@
-use Rattle.std.proofs.Common.{◌∙◌, ap, sym}
-use Rattle.midi_model.specs.Zones.{bend_ranges_from}
+use Rattle.std.proofs.Common.{◌∙◌, ap, sym, nat_eq, Some, if◌then◌else◌}
+use Rattle.midi_model.specs.Zones.{zones_with, bend_ranges_from}
 use Rattle.receiver.specs.Stands.{states_of}
 use Rattle.receiver.specs.Zones.{zones_in}
 use Rattle.receiver.proofs.Ranges.{by_master, with_members}
 use Rattle.receiver.proofs.receiver.Receiver.set_zone.Goals as goal
 
 pub returns-then-members-gt0-clause-zones : goal.returns-then-members-gt0-clause-zones
-returns-then-members-gt0-clause-zones c = ap zones_in c.give_ranges.ensures.rest.zones ∙ c.set.ensures ∙ by_master c.args.master c.args.members (zones_in c.args.self.now.zones) c.requires.place
+returns-then-members-gt0-clause-zones c = ap zones_in c.give_ranges.ensures.rest.zones ∙ c.set.ensures ∙ ap (λ m. zones_with (Some (if nat_eq m 0 then 0 else 15, c.args.members)) (zones_in c.args.self.now.zones)) c.number.ensures.value ∙ by_master c.args.master c.args.members (zones_in c.args.self.now.zones) c.requires.place
 
 pub returns-then-members-gt0-clause-states : goal.returns-then-members-gt0-clause-states
 returns-then-members-gt0-clause-states c =

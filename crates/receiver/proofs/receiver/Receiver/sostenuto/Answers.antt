@@ -1,4 +1,4 @@
-use Rattle.std.proofs.Common.{rules, ◌≡◌, ◌∙◌, refl, sym, ap, true, false}
+use Rattle.std.proofs.Common.{rules, ◌≡◌, ◌∙◌, sym, ap, true, false}
 use Rattle.midi_model.specs.Channel.{control_of}
 use Rattle.midi_model.specs.Music.{channel_at}
 use Rattle.midi_model.specs.Notes.{is_pedal_down}
@@ -14,7 +14,7 @@ returns-then-not-is_down-clause-notes c d k dl kl =
     let s = c.args.self.now in
     let b = control_of (channel_at (set_up_of s) c.args.channel) 66 in
     let was : is_pedal_down b ≡ true =
-    ap is_pedal_down (pedal_here s.channels c.args.channel c.args.channel c.index-self-channel.result 66 (search rules) refl ∙ sym c.get-before.ensures) ∙ sym c.is_down.ensures ∙ c.if-is_down.true in
+    ap is_pedal_down (pedal_here s.channels c.number.result c.args.channel c.index-self-number.result 66 (search rules) c.number.ensures.value ∙ sym c.get-before.ensures) ∙ sym c.is_down.ensures ∙ c.if-is_down.true in
     let is : is_pedal_down c.args.value ≡ false = sym c.is_down-then-is_down.ensures ∙ c.if-not-is_down.true in
     c.turn.ensures.notes d k dl kl ∙ sym (goes_up (zones_in s.zones) c.args.channel b c.args.value c.args.tick (slot s d k) was is)
 
@@ -23,7 +23,7 @@ returns-else-not-is_down-clause-notes c d k dl kl =
     let s = c.args.self.now in
     let b = control_of (channel_at (set_up_of s) c.args.channel) 66 in
     let was : is_pedal_down b ≡ true =
-    ap is_pedal_down (pedal_here s.channels c.args.channel c.args.channel c.index-self-channel.result 66 (search rules) refl ∙ sym c.get-before.ensures) ∙ sym c.is_down.ensures ∙ c.if-is_down.true in
+    ap is_pedal_down (pedal_here s.channels c.number.result c.args.channel c.index-self-number.result 66 (search rules) c.number.ensures.value ∙ sym c.get-before.ensures) ∙ sym c.is_down.ensures ∙ c.if-is_down.true in
     let is : is_pedal_down c.args.value ≡ true = sym c.is_down-then-is_down.ensures ∙ c.if-not-is_down.false in
     sym (stays_down (zones_in s.zones) c.args.channel b c.args.value d k (slot s d k) (slot_here s.channels d k) was is)
 
@@ -32,7 +32,7 @@ returns-then-is_down-2-clause-notes c d k dl kl =
     let s = c.args.self.now in
     let b = control_of (channel_at (set_up_of s) c.args.channel) 66 in
     let was : is_pedal_down b ≡ false =
-    ap is_pedal_down (pedal_here s.channels c.args.channel c.args.channel c.index-self-channel.result 66 (search rules) refl ∙ sym c.get-before.ensures) ∙ sym c.is_down.ensures ∙ c.if-is_down.false in
+    ap is_pedal_down (pedal_here s.channels c.number.result c.args.channel c.index-self-number.result 66 (search rules) c.number.ensures.value ∙ sym c.get-before.ensures) ∙ sym c.is_down.ensures ∙ c.if-is_down.false in
     let is : is_pedal_down c.args.value ≡ true = sym c.is_down-else-is_down.ensures ∙ c.if-is_down-2.true in
     c.turn-then-is_down-2.ensures.notes d k dl kl ∙ sym (goes_down (zones_in s.zones) c.args.channel b c.args.value c.args.tick (slot s d k) was is)
 
@@ -41,6 +41,6 @@ returns-else-is_down-2-clause-notes c d k dl kl =
     let s = c.args.self.now in
     let b = control_of (channel_at (set_up_of s) c.args.channel) 66 in
     let was : is_pedal_down b ≡ false =
-    ap is_pedal_down (pedal_here s.channels c.args.channel c.args.channel c.index-self-channel.result 66 (search rules) refl ∙ sym c.get-before.ensures) ∙ sym c.is_down.ensures ∙ c.if-is_down.false in
+    ap is_pedal_down (pedal_here s.channels c.number.result c.args.channel c.index-self-number.result 66 (search rules) c.number.ensures.value ∙ sym c.get-before.ensures) ∙ sym c.is_down.ensures ∙ c.if-is_down.false in
     let is : is_pedal_down c.args.value ≡ false = sym c.is_down-else-is_down.ensures ∙ c.if-is_down-2.false in
     sym (stays_up (zones_in s.zones) c.args.channel b c.args.value d k (slot s d k) (slot_here s.channels d k) was is)
