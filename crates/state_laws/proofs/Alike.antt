@@ -13,7 +13,8 @@ use Rattle.state_laws.proofs.Pedals.{own_governor, is_free}
 abbrev struck : ℕ → ℕ → ℕ → ℕ → Note → Note
 struck t before after hold n = let_go t hold (cond (sounds n) (cond (is_pedal_down before) (cond (is_pedal_down after) n (record n { captured = false })) (cond (is_pedal_down after && is_down n) (record n { captured = true }) n)) n)
 
-struck_is : (t c : ℕ) (now wanted : Channel) (n : Note) → n.channel ≡ c → pedalled t c now wanted n ≡ struck t (control_of now 66) (control_of wanted 66) (control_of wanted 64) n
+struck_is : (t c : ℕ) (now wanted : Channel) (n : Note) → n.channel ≡ c
+    → pedalled t c now wanted n ≡ struck t (control_of now 66) (control_of wanted 66) (control_of wanted 64) n
 struck_is t c now wanted n e =
     let a : ℕ = control_of now 66 in
     let b : ℕ = control_of wanted 66 in
@@ -49,7 +50,8 @@ alike_let_go t hold n m h =
     (ap (λ r. is_some r && (not m.captured && not (is_pedal_down hold))) h.release ∙ ap (λ k. is_some n.release && (not k && not (is_pedal_down hold))) h.captured)
     (alike_ending t n m h) h
 
-alike_struck : (t before after hold : ℕ) (n m : Note) → AreAlike n m → AreAlike (struck t before after hold n) (struck t before after hold m)
+alike_struck : (t before after hold : ℕ) (n m : Note) → AreAlike n m
+    → AreAlike (struck t before after hold n) (struck t before after hold m)
 alike_struck t before after hold n m h =
     let turned : Bool → Bool → Note → Note = λ g d x. cond g (cond (is_pedal_down before) (cond (is_pedal_down after) x (record x { captured = false })) (cond d (record x { captured = true }) x)) x in
     let s : sounds m ≡ sounds n = ap (λ e. not (is_some e)) h.ended in

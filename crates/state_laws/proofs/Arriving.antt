@@ -43,7 +43,8 @@ pressure_pedalled t c now wanted n = pick (nat_eq n.channel c)
     pick true = let_go_keeps (λ x. x.pressure) t (control_of wanted 64) (sostenuto no_zones c (control_of now 66) (control_of wanted 66) n) (λ e. refl) ∙ sostenuto_keeps (λ x. x.pressure) no_zones c (control_of now 66) (control_of wanted 66) n (λ d. refl)
     pick false = refl
 
-pressed_to : (c : ℕ) (before after : List ℕ) (n : Note) → n.channel ≡ c → sounds n ≡ true → n.pressure ≡ get_or before n.key 0 → (pressed c before after n).pressure ≡ get_or after n.key 0
+pressed_to : (c : ℕ) (before after : List ℕ) (n : Note) → n.channel ≡ c → sounds n ≡ true
+    → n.pressure ≡ get_or before n.key 0 → (pressed c before after n).pressure ≡ get_or after n.key 0
 pressed_to c before after n h s p = pick (nat_eq n.channel c) (sounds n) (nat_eq (get_or before n.key 0) (get_or after n.key 0)) refl (eq-eqb n.channel c h) s
   where
     pick : (a b d : Bool) → nat_eq (get_or before n.key 0) (get_or after n.key 0) ≡ d → a ≡ true → b ≡ true → (let x : Note = cond ((a && b) && not d) (record n { pressure = get_or after n.key 0 }) n in x.pressure) ≡ get_or after n.key 0
@@ -61,7 +62,8 @@ on_key_before t c k now wanted n e =
     let at : is_at c k n ≡ true = ap (λ x. nat_eq x c && nat_eq n.key k) (sym ks.channel) ∙ ap (λ x. nat_eq f.channel c && nat_eq x k) (sym ks.key) ∙ p.0 in
     rw (at) (sounds_before t c now wanted n p.1)
 
-nothing_on : (t c k : ℕ) (now wanted : State) (ns : List Note) → sounding_on c k ns ≡ 0 → (key_pressure (map (followed t c now wanted) ns) c k ≡ 0) × (sounding_on c k (map (followed t c now wanted) ns) ≡ 0)
+nothing_on : (t c k : ℕ) (now wanted : State) (ns : List Note) → sounding_on c k ns ≡ 0
+    → (key_pressure (map (followed t c now wanted) ns) c k ≡ 0) × (sounding_on c k (map (followed t c now wanted) ns) ≡ 0)
 nothing_on t c k now wanted [] h = (refl, refl)
 nothing_on t c k now wanted (n ∷ ns) h =
     pick (on_key c k (followed t c now wanted n)) (λ e. none (on_key c k n) h (on_key_before t c k now wanted n e)) (nothing_on t c k now wanted ns (tail (on_key c k n) h))
@@ -73,7 +75,8 @@ nothing_on t c k now wanted (n ∷ ns) h =
     none true e f = omega (arith, e)
     none false e f = false≢true f
 
-    pick : (b : Bool) → (b ≡ true → ⊥) → (key_pressure (map (followed t c now wanted) ns) c k ≡ 0) × (sounding_on c k (map (followed t c now wanted) ns) ≡ 0)
+    pick : (b : Bool) → (b ≡ true → ⊥)
+        → (key_pressure (map (followed t c now wanted) ns) c k ≡ 0) × (sounding_on c k (map (followed t c now wanted) ns) ≡ 0)
         → (cond b (followed t c now wanted n).pressure (key_pressure (map (followed t c now wanted) ns) c k) ≡ 0) × (cond b 1 0 + sounding_on c k (map (followed t c now wanted) ns) ≡ 0)
     pick true e r = absurd (e refl)
     pick false e r = (r.0, omega (arith, r.1))
@@ -84,13 +87,16 @@ is_zero w s e h = elim (cases_eq w 0) [
   | inr z ↦ absurd (let x : 1 ≤ s = h z in omega (arith, e, x))
 ]
 
-pressure_arrives : (t c k : ℕ) (now wanted : State) (ns : List Note) → key_pressure ns c k ≡ get_or now.keys k 0 → sounding_on c k ns ≤ 1
-    → (get_or wanted.keys k 0 ≢ 0 → 1 ≤ sounding_on c k (map (followed t c now wanted) ns)) → key_pressure (map (followed t c now wanted) ns) c k ≡ get_or wanted.keys k 0
+pressure_arrives : (t c k : ℕ) (now wanted : State) (ns : List Note) → key_pressure ns c k ≡ get_or now.keys k 0
+    → sounding_on c k ns ≤ 1
+    → (get_or wanted.keys k 0 ≢ 0 → 1 ≤ sounding_on c k (map (followed t c now wanted) ns))
+    → key_pressure (map (followed t c now wanted) ns) c k ≡ get_or wanted.keys k 0
 pressure_arrives t c k now wanted [] h one w = sym (is_zero (get_or wanted.keys k 0) 0 refl w)
 pressure_arrives t c k now wanted (n ∷ ns) h one w =
     pick (on_key c k n) (on_key c k (followed t c now wanted n)) refl refl h one w (pressure_arrives t c k now wanted ns) (nothing_on t c k now wanted ns) (on_key_before t c k now wanted n)
   where
-    here : on_key c k n ≡ true → on_key c k (followed t c now wanted n) ≡ true → n.pressure ≡ get_or now.keys k 0 → (followed t c now wanted n).pressure ≡ get_or wanted.keys k 0
+    here : on_key c k n ≡ true → on_key c k (followed t c now wanted n) ≡ true → n.pressure ≡ get_or now.keys k 0
+        → (followed t c now wanted n).pressure ≡ get_or wanted.keys k 0
     here a b p =
         let x : Note = pedalled t c now.own wanted.own n in
         let f : Note = followed t c now wanted n in
@@ -124,7 +130,8 @@ get_pressure ns c i zero j h = absurd (omega (arith, h))
 get_pressure ns c i (suc m) zero h = let e : i ≡ i + 0 = omega arith in ap (key_pressure ns c) e
 get_pressure ns c i (suc m) (suc j) h = let e : suc i + j ≡ i + suc j = omega arith in get_pressure ns c (suc i) m j (omega (arith, h)) ∙ ap (key_pressure ns c) e
 
-pressures_are : (ns : List Note) (c i m : ℕ) (xs : List ℕ) → length xs ≡ m → ((j : ℕ) → j < m → key_pressure ns c (i + j) ≡ get_or xs j 0) → key_pressures ns c i m ≡ xs
+pressures_are : (ns : List Note) (c i m : ℕ) (xs : List ℕ) → length xs ≡ m
+    → ((j : ℕ) → j < m → key_pressure ns c (i + j) ≡ get_or xs j 0) → key_pressures ns c i m ≡ xs
 pressures_are ns c i zero [] l h = refl
 pressures_are ns c i zero (x ∷ xs) l h = absurd (omega (arith, l))
 pressures_are ns c i (suc m) [] l h = absurd (omega (arith, l))
@@ -134,7 +141,8 @@ pressures_are ns c i (suc m) (x ∷ xs) l h =
     let rest : key_pressures ns c (suc i) m ≡ xs = pressures_are ns c (suc i) m xs (omega (arith, l)) (λ j low. (let f : suc i + j ≡ i + suc j = omega arith in ap (key_pressure ns c) f ∙ h (suc j) (omega (arith, low)))) in
     ap (λ r. r ∷ key_pressures ns c (suc i) m) one ∙ ap (λ r. x ∷ r) rest
 
-pub arrives : Laws → (m : Music) (t track c : ℕ) (wanted : State) → IsSettled m → m.zones ≡ no_zones → c ≤ 15 → IsWellFormed (state_at m c) → IsWellFormed wanted
+pub arrives : Laws → (m : Music) (t track c : ℕ) (wanted : State) → IsSettled m → m.zones ≡ no_zones → c ≤ 15
+    → IsWellFormed (state_at m c) → IsWellFormed wanted
     → ((k : ℕ) → sounding_on c k m.notes ≤ 1)
     → ((k : ℕ) → get_or wanted.keys k 0 ≢ 0 → 1 ≤ sounding_on c k (brought_to m t track c (state_at m c) wanted).notes)
     → unselected (state_at (brought_to m t track c (state_at m c) wanted) c) ≡ unselected wanted
@@ -156,7 +164,8 @@ arrives l m t track c wanted s z ok hn hw one w =
 
 -- ---- two cases
 
-sounding_pressed : (c k : ℕ) (before after : List ℕ) (ns : List Note) → sounding_on c k (map (pressed c before after) ns) ≡ sounding_on c k ns
+sounding_pressed : (c k : ℕ) (before after : List ℕ) (ns : List Note)
+    → sounding_on c k (map (pressed c before after) ns) ≡ sounding_on c k ns
 sounding_pressed c k before after [] = refl
 sounding_pressed c k before after (n ∷ ns) =
     ap (λ r. cond (on_key c k (pressed c before after n)) 1 0 + r) (sounding_pressed c k before after ns) ∙ ap (λ b. cond b 1 0 + sounding_on c k ns) (same ((nat_eq n.channel c && sounds n) && not (nat_eq (get_or before n.key 0) (get_or after n.key 0))))
@@ -165,9 +174,11 @@ sounding_pressed c k before after (n ∷ ns) =
     same true = refl
     same false = refl
 
-pub arrives_under : Laws → (m : Music) (t track c : ℕ) (wanted : State) → IsSettled m → m.zones ≡ no_zones → c ≤ 15 → IsWellFormed (state_at m c) → IsWellFormed wanted
+pub arrives_under : Laws → (m : Music) (t track c : ℕ) (wanted : State) → IsSettled m → m.zones ≡ no_zones → c ≤ 15
+    → IsWellFormed (state_at m c) → IsWellFormed wanted
     → ((k : ℕ) → sounding_on c k m.notes ≤ 1)
-    → is_pedal_down (control_of wanted.own 64) ≡ is_pedal_down (control_of (channel_at m c) 64) → is_pedal_down (control_of wanted.own 66) ≡ is_pedal_down (control_of (channel_at m c) 66)
+    → is_pedal_down (control_of wanted.own 64) ≡ is_pedal_down (control_of (channel_at m c) 64)
+    → is_pedal_down (control_of wanted.own 66) ≡ is_pedal_down (control_of (channel_at m c) 66)
     → ((k : ℕ) → get_or wanted.keys k 0 ≢ 0 → 1 ≤ sounding_on c k m.notes)
     → unselected (state_at (brought_to m t track c (state_at m c) wanted) c) ≡ unselected wanted
 arrives_under l m t track c wanted s z ok hn hw one e f w =
@@ -175,7 +186,8 @@ arrives_under l m t track c wanted s z ok hn hw one e f w =
     let notes : (brought_to m t track c now wanted).notes ≡ map (pressed c now.keys wanted.keys) m.notes = ends_none l m t track c now wanted s z ok hn hw refl e f in
     arrives l m t track c wanted s z ok hn hw one (λ k x. subst (λ (n : ℕ). 1 ≤ n) (sym (ap (sounding_on c k) notes ∙ sounding_pressed c k now.keys wanted.keys m.notes)) (w k x))
 
-pub arrives_silent : Laws → (m : Music) (t track c : ℕ) (wanted : State) → IsSettled m → m.zones ≡ no_zones → c ≤ 15 → IsWellFormed (state_at m c) → IsWellFormed wanted
+pub arrives_silent : Laws → (m : Music) (t track c : ℕ) (wanted : State) → IsSettled m → m.zones ≡ no_zones → c ≤ 15
+    → IsWellFormed (state_at m c) → IsWellFormed wanted
     → ((k : ℕ) → sounding_on c k m.notes ≡ 0) → ((k : ℕ) → get_or wanted.keys k 0 ≡ 0)
     → unselected (state_at (brought_to m t track c (state_at m c) wanted) c) ≡ unselected wanted
 arrives_silent l m t track c wanted s z ok hn hw none zero_ = arrives l m t track c wanted s z ok hn hw (λ k. (let x : sounding_on c k m.notes ≡ 0 = none k in omega (arith, x))) (λ k x. absurd (x (zero_ k)))
@@ -186,10 +198,12 @@ settled_all : EventsSettle → (m : Music) (es : List MidiEvent) → IsSettled m
 settled_all f m [] h = h
 settled_all f m (e ∷ es) h = settled_all f (step m e) es (f m e h)
 
-pub stays_settled : EventsSettle → (m : Music) (t track c : ℕ) (now wanted : State) → IsSettled m → IsSettled (brought_to m t track c now wanted)
+pub stays_settled : EventsSettle → (m : Music) (t track c : ℕ) (now wanted : State) → IsSettled m
+    → IsSettled (brought_to m t track c now wanted)
 stays_settled f m t track c now wanted h = settled_all f m (events_of t track (bring c now wanted)) h
 
-fewer : (t c d k : ℕ) (now wanted : State) (ns : List Note) → sounding_on d k (map (followed t c now wanted) ns) ≤ sounding_on d k ns
+fewer : (t c d k : ℕ) (now wanted : State) (ns : List Note)
+    → sounding_on d k (map (followed t c now wanted) ns) ≤ sounding_on d k ns
 fewer t c d k now wanted [] = omega arith
 fewer t c d k now wanted (n ∷ ns) = pick (on_key d k (followed t c now wanted n)) (on_key d k n) refl refl (fewer t c d k now wanted ns)
   where
@@ -201,14 +215,16 @@ fewer t c d k now wanted (n ∷ ns) = pick (on_key d k (followed t c now wanted 
         let at : is_at d k n ≡ true = ap (λ x. nat_eq x d && nat_eq n.key k) (sym ks.channel) ∙ ap (λ x. nat_eq f.channel d && nat_eq x k) (sym ks.key) ∙ p.0 in
         rw (at) (sounds_before t c now wanted n p.1)
 
-    pick : (a b : Bool) → on_key d k (followed t c now wanted n) ≡ a → on_key d k n ≡ b → sounding_on d k (map (followed t c now wanted) ns) ≤ sounding_on d k ns
+    pick : (a b : Bool) → on_key d k (followed t c now wanted n) ≡ a → on_key d k n ≡ b
+        → sounding_on d k (map (followed t c now wanted) ns) ≤ sounding_on d k ns
         → cond a 1 0 + sounding_on d k (map (followed t c now wanted) ns) ≤ cond b 1 0 + sounding_on d k ns
     pick true true e f h = omega (arith, h)
     pick true false e f h = absurd (false≢true (sym f ∙ before e))
     pick false true e f h = omega (arith, h)
     pick false false e f h = omega (arith, h)
 
-pub sounds_no_more : Laws → (m : Music) (t track c d k : ℕ) (now wanted : State) → IsSettled m → m.zones ≡ no_zones → c ≤ 15 → IsWellFormed now → IsWellFormed wanted → now.own ≡ channel_at m c
+pub sounds_no_more : Laws → (m : Music) (t track c d k : ℕ) (now wanted : State) → IsSettled m → m.zones ≡ no_zones → c ≤ 15
+    → IsWellFormed now → IsWellFormed wanted → now.own ≡ channel_at m c
     → sounding_on d k (brought_to m t track c now wanted).notes ≤ sounding_on d k m.notes
 sounds_no_more l m t track c d k now wanted s z ok hn hw own =
     subst (λ (ns : List Note). sounding_on d k ns ≤ sounding_on d k m.notes) (sym (plays l m t track c now wanted s z ok hn hw own).notes) (fewer t c d k now wanted m.notes)

@@ -26,7 +26,8 @@ use Rattle.state_laws.proofs.Sounding.{sounded, play_events, sounded_append, alo
 abbrev Leads : ℕ → List Channel → ℕ → State → List Note → List Msg → List Note → Type 0
 Leads t ss c st ns ms xs = sounded t (music_of ss c st.own ns) ms ≡ music_of ss c (apply_all st ms).own xs
 
-leads_then : (t : ℕ) (ss : List Channel) (c : ℕ) (st : State) (ns xs ys : List Note) (a b : List Msg) → Leads t ss c st ns a xs → Leads t ss c (apply_all st a) xs b ys → Leads t ss c st ns (a ++ b) ys
+leads_then : (t : ℕ) (ss : List Channel) (c : ℕ) (st : State) (ns xs ys : List Note) (a b : List Msg)
+    → Leads t ss c st ns a xs → Leads t ss c (apply_all st a) xs b ys → Leads t ss c st ns (a ++ b) ys
 leads_then t ss c st ns xs ys a b h k =
     sounded_append t (music_of ss c st.own ns) a b ∙ ap (λ m. sounded t m b) h ∙ k ∙ ap (λ s. music_of ss c s.own ys) (sym (apply_all-append st a b))
 
@@ -35,8 +36,10 @@ leads_then t ss c st ns xs ys a b h k =
 apart_from : (n : ℕ) → n ≢ 64 → n ≢ 66 → (not (nat_eq n 64) && not (nat_eq n 66)) ≡ true
 apart_from n a b = and_from (not (nat_eq n 64)) (not (nat_eq n 66)) (not_from_false (nat_eq n 64) (ne_eqb n 64 a)) (not_from_false (nat_eq n 66) (ne_eqb n 66 b))
 
-controls_lead : (t : ℕ) (ss : List Channel) (c : ℕ) (st : State) (ns : List Note) (xs ys : List ℕ) → c < length ss → length xs ≡ 120 → length ys ≡ 120 → length st.own.controls ≡ 120
-    → control_of st.own 64 ≡ get_or xs 64 0 → control_of st.own 66 ≡ get_or xs 66 0 → Along (OnlySets c) st (bring_controls c 0 xs ys) → Calm t ss c (get_or xs 64 0) ns
+controls_lead : (t : ℕ) (ss : List Channel) (c : ℕ) (st : State) (ns : List Note) (xs ys : List ℕ) → c < length ss
+    → length xs ≡ 120 → length ys ≡ 120 → length st.own.controls ≡ 120
+    → control_of st.own 64 ≡ get_or xs 64 0 → control_of st.own 66 ≡ get_or xs 66 0
+    → Along (OnlySets c) st (bring_controls c 0 xs ys) → Calm t ss c (get_or xs 64 0) ns
     → Leads t ss c st ns (bring_controls c 0 xs ys) (map (settled_by t ss c (get_or ys 64 0)) (map (sostenuto no_zones c (get_or xs 66 0) (get_or ys 66 0)) ns))
 controls_lead t ss c st ns xs ys low lx ly len hold sost along calm =
     let r : List ℕ = drop 65 xs in
@@ -101,7 +104,8 @@ controls_lead t ss c st ns xs ys low lx ly len hold sost along calm =
     subst (λ (ms : List Msg). Leads t ss c st ns ms (map (settled_by t ss c y64) (map (sostenuto no_zones c (get_or xs 66 0) (get_or ys 66 0)) ns))) (sym whole)
     (led ∙ ap (λ l. music_of ss c (apply_all st (a ++ (d ++ (b ++ (e ++ f))))).own l) same)
   where
-    first_settled : (v x y : ℕ) → map (settled_by t ss c v) (map (sostenuto no_zones c x y) (map (settled_by t ss c v) ns)) ≡ map (settled_by t ss c v) (map (sostenuto no_zones c x y) ns)
+    first_settled : (v x y : ℕ)
+        → map (settled_by t ss c v) (map (sostenuto no_zones c x y) (map (settled_by t ss c v) ns)) ≡ map (settled_by t ss c v) (map (sostenuto no_zones c x y) ns)
     first_settled v x y =
         ap (map (settled_by t ss c v)) (map_then (sostenuto no_zones c x y) (settled_by t ss c v) ns)
         ∙ map_then (settled_by t ss c v) (λ n. sostenuto no_zones c x y (settled_by t ss c v n)) ns
@@ -110,7 +114,8 @@ controls_lead t ss c st ns xs ys low lx ly len hold sost along calm =
 
 -- ---- the key pressures
 
-keys_lead : (t : ℕ) (ss : List Channel) (c k : ℕ) (st : State) (ns : List Note) (xs ys : List ℕ) → c < length ss → Calm t ss c (control_of st.own 64) ns → Leads t ss c st ns (bring_keys c k xs ys) (map (press c k xs ys) ns)
+keys_lead : (t : ℕ) (ss : List Channel) (c k : ℕ) (st : State) (ns : List Note) (xs ys : List ℕ) → c < length ss
+    → Calm t ss c (control_of st.own 64) ns → Leads t ss c st ns (bring_keys c k xs ys) (map (press c k xs ys) ns)
 keys_lead t ss c k st ns [] ys low h = ap (λ l. music_of ss c st.own l) (sym (map_id ns))
   where
     map_id : (ns : List Note) → map (λ n. n) ns ≡ ns
@@ -129,7 +134,8 @@ keys_lead t ss c k st ns (x ∷ xs) (y ∷ ys) low h =
     one_step t ss c st ns (KeyPressure c k y) low (record { channel = refl; sets = refl }) ∙ ap (λ l. music_of ss c st.own l) (calm_map t ss c v one calm) in
     pick (nat_eq x y) heard (keys_lead t ss c (k + 1) st ns xs ys low h) (keys_lead t ss c (k + 1) (apply_state st (KeyPressure c k y)) one xs ys low calm)
   where
-    pick : (b : Bool) → settle t (act t (KeyPressure c k y) (music_of ss c st.own ns)) ≡ music_of ss c st.own (map (with_pressure c k y) ns)
+    pick : (b : Bool)
+        → settle t (act t (KeyPressure c k y) (music_of ss c st.own ns)) ≡ music_of ss c st.own (map (with_pressure c k y) ns)
         → Leads t ss c st ns (bring_keys c (k + 1) xs ys) (map (press c (k + 1) xs ys) ns)
         → Leads t ss c (apply_state st (KeyPressure c k y)) (map (with_pressure c k y) ns) (bring_keys c (k + 1) xs ys) (map (press c (k + 1) xs ys) (map (with_pressure c k y) ns))
         → Leads t ss c st ns (cond b [] (KeyPressure c k y ∷ []) ++ bring_keys c (k + 1) xs ys) (map (λ n. press c (k + 1) xs ys (cond b n (with_pressure c k y n))) ns)
@@ -140,7 +146,8 @@ keys_lead t ss c k st ns (x ∷ xs) (y ∷ ys) low h =
 
 -- ---- what no note hears
 
-voice_still : (c : ℕ) (v : Voice) (a h l : Bool) → AreStill (cond a [] ((cond h [] (Control c 0 v.high ∷ []) ++ cond l [] (Control c 32 v.low ∷ [])) ++ Program c v.program ∷ []))
+voice_still : (c : ℕ) (v : Voice) (a h l : Bool)
+    → AreStill (cond a [] ((cond h [] (Control c 0 v.high ∷ []) ++ cond l [] (Control c 32 v.low ∷ [])) ++ Program c v.program ∷ []))
 voice_still c v true h l = tt
 voice_still c v false true true = (refl, tt)
 voice_still c v false true false = (refl, (refl, tt))
@@ -178,7 +185,8 @@ differs_still a b m e = pick (nat_eq a b)
 
 -- ---- the whole
 
-bring_leads : Laws → (t : ℕ) (ss : List Channel) (c : ℕ) (now wanted : State) (ns : List Note) → c < length ss → c ≤ 15 → IsWellFormed now → IsWellFormed wanted → Calm t ss c (control_of now.own 64) ns
+bring_leads : Laws → (t : ℕ) (ss : List Channel) (c : ℕ) (now wanted : State) (ns : List Note) → c < length ss → c ≤ 15
+    → IsWellFormed now → IsWellFormed wanted → Calm t ss c (control_of now.own 64) ns
     → Leads t ss c now ns (bring c now wanted) (map (press c 0 now.keys wanted.keys) (map (pedalled t c now.own wanted.own) ns))
 bring_leads l t ss c now wanted ns low ok hn hw calm =
     let P : State → Msg → Type 0 = OnlySets c in
@@ -227,7 +235,8 @@ bring_leads l t ss c now wanted ns low ok hn hw calm =
     subst (λ (ms : List Msg). Leads t ss c now ns ms (map (press c 0 now.keys wanted.keys) (map (pedalled t c now.own wanted.own) ns))) (sym (bring_is c now wanted hn))
     (led ∙ ap (λ x. music_of ss c (apply_all now (brought c now wanted)).own (map (press c 0 now.keys wanted.keys) x)) strokes)
 
-pub plays : Laws → (m : Music) (t track c : ℕ) (now wanted : State) → IsSettled m → m.zones ≡ no_zones → c ≤ 15 → IsWellFormed now → IsWellFormed wanted → now.own ≡ channel_at m c
+pub plays : Laws → (m : Music) (t track c : ℕ) (now wanted : State) → IsSettled m → m.zones ≡ no_zones → c ≤ 15
+    → IsWellFormed now → IsWellFormed wanted → now.own ≡ channel_at m c
     → IsBrought t c now wanted m (play m (events_of t track (bring c now wanted)))
 plays l m t track c now wanted s z ok hn hw own =
     let ss : List Channel = m.channels in

@@ -27,18 +27,21 @@ play_append : (m : Music) (a b : List MidiEvent) → play m (a ++ b) ≡ play (p
 play_append m [] b = refl
 play_append m (e ∷ a) b = play_append (step m e) a b
 
-play_next : (m : Music) (t track : ℕ) (a b : List Msg) → play m (events_of t track (a ++ b)) ≡ play (play m (events_of t track a)) (events_of t track b)
+play_next : (m : Music) (t track : ℕ) (a b : List Msg)
+    → play m (events_of t track (a ++ b)) ≡ play (play m (events_of t track a)) (events_of t track b)
 play_next m t track a b = ap (play m) (events_append t track a b) ∙ play_append m (events_of t track a) (events_of t track b)
 
 -- ---- the other goals, after one is brought
 
 -- the states of the other channels are the same, so the messages are
-several_same : (m x : Music) (gs : List Goal) (c : ℕ) → IsFree c gs → ((d : ℕ) → d ≢ c → state_at x d ≡ state_at m d) → bring_several x gs ≡ bring_several m gs
+several_same : (m x : Music) (gs : List Goal) (c : ℕ) → IsFree c gs → ((d : ℕ) → d ≢ c → state_at x d ≡ state_at m d)
+    → bring_several x gs ≡ bring_several m gs
 several_same m x [] c f h = refl
 several_same m x (g ∷ gs) c f h =
     ap (λ s. bring g.channel s g.state ++ bring_several x gs) (h g.channel (λ e. f.0 (sym e))) ∙ ap (λ r. bring g.channel (state_at m g.channel) g.state ++ r) (several_same m x gs c f.1 h)
 
-noted_same : (t : ℕ) (m x : Music) (gs : List Goal) (c : ℕ) (n : Note) → IsFree c gs → ((d : ℕ) → d ≢ c → state_at x d ≡ state_at m d) → noted t x gs n ≡ noted t m gs n
+noted_same : (t : ℕ) (m x : Music) (gs : List Goal) (c : ℕ) (n : Note) → IsFree c gs
+    → ((d : ℕ) → d ≢ c → state_at x d ≡ state_at m d) → noted t x gs n ≡ noted t m gs n
 noted_same t m x [] c n f h = refl
 noted_same t m x (g ∷ gs) c n f h =
     ap (λ s. cond (nat_eq n.channel g.channel) (followed t g.channel s g.state n) (noted t x gs n)) (h g.channel (λ e. f.0 (sym e)))
@@ -70,7 +73,8 @@ sounding_same t c d k now wanted a b (n ∷ ns) h = elim (cases_eq n.channel c) 
     past m ms e = let z : 0 + sounding_on d k ms ≡ sounding_on d k ms = omega arith in
         ap (λ b. cond b 1 0 + sounding_on d k ms) (and_left (is_at d k m) (sounds m) (and_left (nat_eq m.channel d) (nat_eq m.key k) e)) ∙ z
 
-ready_after : Laws → EventsSettle → (m : Music) (t track c : ℕ) (wanted : State) (gs : List Goal) → IsSettled m → m.zones ≡ no_zones → c ≤ 15 → IsWellFormed (state_at m c) → IsWellFormed wanted
+ready_after : Laws → EventsSettle → (m : Music) (t track c : ℕ) (wanted : State) (gs : List Goal) → IsSettled m
+    → m.zones ≡ no_zones → c ≤ 15 → IsWellFormed (state_at m c) → IsWellFormed wanted
     → IsFree c gs → AreReady t track m gs → AreReady t track (brought_to m t track c (state_at m c) wanted) gs
 ready_after l f m t track c wanted [] s z ok hn hw free r = tt
 ready_after l f m t track c wanted (g ∷ gs) s z ok hn hw free r =
@@ -97,7 +101,8 @@ ready_after l f m t track c wanted (g ∷ gs) s z ok hn hw free r =
 
 -- ---- all of them
 
-pub brings_several : Laws → EventsSettle → (m : Music) (t track : ℕ) (gs : List Goal) → IsSettled m → m.zones ≡ no_zones → ((c k : ℕ) → sounding_on c k m.notes ≤ 1) → AreDistinct gs → AreReady t track m gs
+pub brings_several : Laws → EventsSettle → (m : Music) (t track : ℕ) (gs : List Goal) → IsSettled m → m.zones ≡ no_zones
+    → ((c k : ℕ) → sounding_on c k m.notes ≤ 1) → AreDistinct gs → AreReady t track m gs
     → AreBrought t m (play m (events_of t track (bring_several m gs))) gs
 brings_several l f m t track [] s z one dis r = record { zones = z; settled = s; reached = tt; others = λ d h. refl; notes = sym (map_none (λ n. n) m.notes (λ n. refl)) }
 brings_several l f m t track (g ∷ gs) s z one dis r =

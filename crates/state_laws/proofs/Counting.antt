@@ -21,7 +21,8 @@ use Rattle.state_laws.proofs.Rooms.{count, count_one}
 
 -- ---- the groups
 
-length_voice_by : (c : ℕ) (v : Voice) (a h l : Bool) → length (cond a [] ((cond h [] (Control c 0 v.high ∷ []) ++ cond l [] (Control c 32 v.low ∷ [])) ++ Program c v.program ∷ [])) ≤ 3
+length_voice_by : (c : ℕ) (v : Voice) (a h l : Bool)
+    → length (cond a [] ((cond h [] (Control c 0 v.high ∷ []) ++ cond l [] (Control c 32 v.low ∷ [])) ++ Program c v.program ∷ [])) ≤ 3
 length_voice_by c v true h l = omega arith
 length_voice_by c v false true true = omega arith
 length_voice_by c v false true false = omega arith
@@ -33,7 +34,8 @@ length_controls c n [] ys = refl
 length_controls c n (x ∷ xs) [] = refl
 length_controls c n (x ∷ xs) (y ∷ ys) = pick (nat_eq x y) (length_controls c (n + 1) xs ys)
   where
-    pick : (b : Bool) → length (bring_controls c (n + 1) xs ys) ≡ differing xs ys → length (cond b [] (Control c n y ∷ []) ++ bring_controls c (n + 1) xs ys) ≡ cond b 0 1 + differing xs ys
+    pick : (b : Bool) → length (bring_controls c (n + 1) xs ys) ≡ differing xs ys
+        → length (cond b [] (Control c n y ∷ []) ++ bring_controls c (n + 1) xs ys) ≡ cond b 0 1 + differing xs ys
     pick true h = omega (arith, h)
     pick false h = omega (arith, h)
 
@@ -42,7 +44,8 @@ length_keys c n [] ys = refl
 length_keys c n (x ∷ xs) [] = refl
 length_keys c n (x ∷ xs) (y ∷ ys) = pick (nat_eq x y) (length_keys c (n + 1) xs ys)
   where
-    pick : (b : Bool) → length (bring_keys c (n + 1) xs ys) ≡ differing xs ys → length (cond b [] (KeyPressure c n y ∷ []) ++ bring_keys c (n + 1) xs ys) ≡ cond b 0 1 + differing xs ys
+    pick : (b : Bool) → length (bring_keys c (n + 1) xs ys) ≡ differing xs ys
+        → length (cond b [] (KeyPressure c n y ∷ []) ++ bring_keys c (n + 1) xs ys) ≡ cond b 0 1 + differing xs ys
     pick true h = omega (arith, h)
     pick false h = omega (arith, h)
 
@@ -58,7 +61,8 @@ differing_set (x ∷ xs) (y ∷ ys) zero v = pick (nat_eq v y) (nat_eq x y)
     pick false false = omega arith
 differing_set (x ∷ xs) (y ∷ ys) (suc i) v = pick (nat_eq x y) (differing_set xs ys i v)
   where
-    pick : (b : Bool) → differing (set xs i v) ys ≤ 1 + differing xs ys → cond b 0 1 + differing (set xs i v) ys ≤ 1 + (cond b 0 1 + differing xs ys)
+    pick : (b : Bool) → differing (set xs i v) ys ≤ 1 + differing xs ys
+        → cond b 0 1 + differing (set xs i v) ys ≤ 1 + (cond b 0 1 + differing xs ys)
     pick true h = omega (arith, h)
     pick false h = omega (arith, h)
 
@@ -114,7 +118,8 @@ length_changed now wanted =
 -- ---- all of them
 
 -- by the number of controllers and of parameters
-length_bring : (c k p : ℕ) (now wanted : State) → IsWellFormed now → differing (first_state now wanted).own.controls wanted.own.controls ≤ k → length (changed now wanted) ≤ p
+length_bring : (c k p : ℕ) (now wanted : State) → IsWellFormed now
+    → differing (first_state now wanted).own.controls wanted.own.controls ≤ k → length (changed now wanted) ≤ p
     → length (bring c now wanted) ≤ 7 + k + 4 * p + differing now.keys wanted.keys
 length_bring c k p now wanted h hk hp =
     let v : List Msg = bring_voice c now.own wanted.own.voice in
@@ -155,7 +160,8 @@ stored_in n (suc m) = cond (is_stored n) 1 0 + stored_in (n + 1) m
 all_stored : stored_in 0 120 ≡ 112
 all_stored = refl
 
-differing_stored : (n : ℕ) (xs ys : List ℕ) → ((i : ℕ) → is_stored (n + i) ≡ false → get_or xs i 0 ≡ get_or ys i 0) → differing xs ys ≤ stored_in n (length xs)
+differing_stored : (n : ℕ) (xs ys : List ℕ) → ((i : ℕ) → is_stored (n + i) ≡ false → get_or xs i 0 ≡ get_or ys i 0)
+    → differing xs ys ≤ stored_in n (length xs)
 differing_stored n [] ys u = omega arith
 differing_stored n (x ∷ xs) [] u = omega arith
 differing_stored n (x ∷ xs) (y ∷ ys) u =
@@ -163,7 +169,8 @@ differing_stored n (x ∷ xs) (y ∷ ys) u =
     let shift : (i : ℕ) → (n + 1) + i ≡ n + suc i = λ i. omega arith in
     pick (is_stored n) (nat_eq x y) refl refl first (differing_stored (n + 1) xs ys (λ i f. u (suc i) (ap is_stored (sym (shift i)) ∙ f)))
   where
-    pick : (s b : Bool) → is_stored n ≡ s → nat_eq x y ≡ b → n + 0 ≡ n → differing xs ys ≤ stored_in (n + 1) (length xs) → cond b 0 1 + differing xs ys ≤ cond s 1 0 + stored_in (n + 1) (length xs)
+    pick : (s b : Bool) → is_stored n ≡ s → nat_eq x y ≡ b → n + 0 ≡ n → differing xs ys ≤ stored_in (n + 1) (length xs)
+        → cond b 0 1 + differing xs ys ≤ cond s 1 0 + stored_in (n + 1) (length xs)
     pick true true e f first h = omega (arith, h)
     pick true false e f first h = omega (arith, h)
     pick false true e f first h = omega (arith, h)
@@ -194,12 +201,15 @@ at_most_one r (e ∷ es) h = elim (cases_eq (rank e.parameter) r) [
   | inr x ↦ (let ih : at_rank r es ≤ 1 = at_most_one r es h.1 in rw (ne_eqb (rank e.parameter) r x) (omega (arith, ih)))
 ]
 
-settable_by : (b : Bool) (h l n : ℕ) → h < 128 → l < 128 → n < 128 → cond b 0 16384 + 128 * h + l ≡ n → (b ≡ true) × (h ≡ 0) × (l ≡ n)
+settable_by : (b : Bool) (h l n : ℕ) → h < 128 → l < 128 → n < 128 → cond b 0 16384 + 128 * h + l ≡ n
+    → (b ≡ true) × (h ≡ 0) × (l ≡ n)
 settable_by true h l n hh hl hn e = (refl, omega arith, omega arith)
 settable_by false h l n hh hl hn e = absurd (omega arith)
 
 -- RPN 3 and 6 can't be entered
-not_special : (p : Parameter) (n : ℕ) → IsSmall p → n < 128 → (let q : Parameter = record { registered = true; high = 0; low = n } in is_settable q ≡ false) → is_settable p ≡ true → rank p ≢ n
+not_special : (p : Parameter) (n : ℕ) → IsSmall p → n < 128
+    → (let q : Parameter = record { registered = true; high = 0; low = n } in is_settable q ≡ false) → is_settable p ≡ true
+    → rank p ≢ n
 not_special p n s low f h e =
     let t = settable_by p.registered p.high p.low n s.high s.low low e in
     let x : is_settable p ≡ (let q : Parameter = record { registered = true; high = 0; low = n } in is_settable q) =
@@ -208,10 +218,12 @@ not_special p n s low f h e =
     ∙ ap (λ b. let q : Parameter = record { registered = true; high = 0; low = b } in is_settable q) t.2 in
     false≢true (sym (x ∙ f) ∙ h)
 
-one_of : (r : ℕ) → r ≢ 3 → r ≢ 6 → 1 ≤ cond (nat_lt 6 r || nat_eq r 4) 1 0 + (cond (nat_eq r 0) 1 0 + (cond (nat_eq r 1) 1 0 + (cond (nat_eq r 2) 1 0 + cond (nat_eq r 5) 1 0)))
+one_of : (r : ℕ) → r ≢ 3 → r ≢ 6
+    → 1 ≤ cond (nat_lt 6 r || nat_eq r 4) 1 0 + (cond (nat_eq r 0) 1 0 + (cond (nat_eq r 1) 1 0 + (cond (nat_eq r 2) 1 0 + cond (nat_eq r 5) 1 0)))
 one_of r a b = grind (arith, nat_tests)
 
-few_uncounted : (es : List Entry) → AreEntered es → length es ≤ count es + (at_rank 0 es + (at_rank 1 es + (at_rank 2 es + at_rank 5 es)))
+few_uncounted : (es : List Entry) → AreEntered es
+    → length es ≤ count es + (at_rank 0 es + (at_rank 1 es + (at_rank 2 es + at_rank 5 es)))
 few_uncounted [] h = omega arith
 few_uncounted (e ∷ es) h =
     let ih = few_uncounted es h.1 in
@@ -225,7 +237,8 @@ count_append : (a b : List Entry) → count (a ++ b) ≡ count a + count b
 count_append [] b = omega arith
 count_append (e ∷ es) b = pick (counts e) (count_append es b)
   where
-    pick : (x : Bool) → count (es ++ b) ≡ count es + count b → length (cond x (e ∷ filter counts (es ++ b)) (filter counts (es ++ b))) ≡ length (cond x (e ∷ filter counts es) (filter counts es)) + count b
+    pick : (x : Bool) → count (es ++ b) ≡ count es + count b
+        → length (cond x (e ∷ filter counts (es ++ b)) (filter counts (es ++ b))) ≡ length (cond x (e ∷ filter counts es) (filter counts es)) + count b
     pick true h = omega (arith, h)
     pick false h = h
 
@@ -233,7 +246,8 @@ count_default : (es : List Entry) → count (map made_default es) ≡ count es
 count_default [] = refl
 count_default (e ∷ es) = pick (counts e) (count_default es)
   where
-    pick : (x : Bool) → count (map made_default es) ≡ count es → length (cond x (made_default e ∷ filter counts (map made_default es)) (filter counts (map made_default es))) ≡ length (cond x (e ∷ filter counts es) (filter counts es))
+    pick : (x : Bool) → count (map made_default es) ≡ count es
+        → length (cond x (made_default e ∷ filter counts (map made_default es)) (filter counts (map made_default es))) ≡ length (cond x (e ∷ filter counts es) (filter counts es))
     pick true h = ap suc h
     pick false h = h
 
@@ -241,13 +255,16 @@ count_filter : (p : Entry → Bool) (es : List Entry) → count (filter p es) �
 count_filter p [] = omega arith
 count_filter p (e ∷ es) = pick (p e) (counts e) (count_one e (filter p es)) (count_one e es) refl (count_filter p es)
   where
-    pick : (x y : Bool) → count (e ∷ filter p es) ≡ cond (counts e) (suc (count (filter p es))) (count (filter p es)) → count (e ∷ es) ≡ cond (counts e) (suc (count es)) (count es) → counts e ≡ y → count (filter p es) ≤ count es → count (cond x (e ∷ filter p es) (filter p es)) ≤ count (e ∷ es)
+    pick : (x y : Bool) → count (e ∷ filter p es) ≡ cond (counts e) (suc (count (filter p es))) (count (filter p es))
+        → count (e ∷ es) ≡ cond (counts e) (suc (count es)) (count es) → counts e ≡ y → count (filter p es) ≤ count es
+        → count (cond x (e ∷ filter p es) (filter p es)) ≤ count (e ∷ es)
     pick true true a b c h = rw (a, b, c) (omega (arith, h))
     pick true false a b c h = rw (a, b, c) (omega (arith, h))
     pick false true a b c h = rw (b, c) (omega (arith, h))
     pick false false a b c h = rw (b, c) (omega (arith, h))
 
-changed_most : (now wanted : State) → IsWellFormed now → IsWellFormed wanted → length (changed now wanted) ≤ 4 + (counted now.own + counted wanted.own)
+changed_most : (now wanted : State) → IsWellFormed now → IsWellFormed wanted
+    → length (changed now wanted) ≤ 4 + (counted now.own + counted wanted.own)
 changed_most now wanted hn hw =
     let ns : List Entry = now.own.params in
     let ws : List Entry = wanted.own.params in
@@ -264,7 +281,8 @@ changed_most now wanted hn hw =
     let g = count_filter (wants_other ns) ws in
     omega (arith, u, a0, a1, a2, a5, s, d, f, g)
 
-pub most : (c : ℕ) (now wanted : State) → IsWellFormed now → IsWellFormed wanted → counted now.own ≤ 16 → counted wanted.own ≤ 16 → length (bring c now wanted) ≤ 391
+pub most : (c : ℕ) (now wanted : State) → IsWellFormed now → IsWellFormed wanted → counted now.own ≤ 16
+    → counted wanted.own ≤ 16 → length (bring c now wanted) ≤ 391
 most c now wanted hn hw rn rw =
     let sz = sized_voice now.own.controls now.own.voice wanted.own.voice (sized now hn) in
     let e : (i : ℕ) → 0 + i ≡ i = λ i. omega arith in
@@ -327,7 +345,8 @@ differs_free a b m n = pick (nat_eq a b)
     pick false = refl
 
 -- the length, by the lengths of the groups
-length_groups : (v k p w b ks : List Msg) → length (((((v ++ k) ++ p) ++ w) ++ b) ++ ks) ≡ length v + (length k + (length p + (length w + (length b + length ks))))
+length_groups : (v k p w b ks : List Msg)
+    → length (((((v ++ k) ++ p) ++ w) ++ b) ++ ks) ≡ length v + (length k + (length p + (length w + (length b + length ks))))
 length_groups v k p w b ks =
     let a1 = length-append v k in
     let a2 = length-append (v ++ k) p in

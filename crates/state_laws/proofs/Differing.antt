@@ -23,11 +23,13 @@ differ_append : (now wanted a b : List Entry) → Differ now wanted a → Differ
 differ_append now wanted [] b h k = k
 differ_append now wanted (e ∷ a) b h k = (h.0, differ_append now wanted a b h.1 k)
 
-differ_defaults : (now wanted es : List Entry) → Sticks now es → Differ now wanted (map made_default (filter (wants_default wanted) es))
+differ_defaults : (now wanted es : List Entry) → Sticks now es
+    → Differ now wanted (map made_default (filter (wants_default wanted) es))
 differ_defaults now wanted [] h = tt
 differ_defaults now wanted (e ∷ es) h = pick (wants_default wanted e) refl (differ_defaults now wanted es h.1)
   where
-    pick : (b : Bool) → wants_default wanted e ≡ b → Differ now wanted (map made_default (filter (wants_default wanted) es)) → Differ now wanted (map made_default (cond b (e ∷ filter (wants_default wanted) es) (filter (wants_default wanted) es)))
+    pick : (b : Bool) → wants_default wanted e ≡ b → Differ now wanted (map made_default (filter (wants_default wanted) es))
+        → Differ now wanted (map made_default (cond b (e ∷ filter (wants_default wanted) es) (filter (wants_default wanted) es)))
     pick false f r = r
     pick true f r = (λ x. h.0 (x ∙ pair_eq-true (value_of wanted e.parameter) (default_value e.parameter) f), r)
 
@@ -48,7 +50,8 @@ differ_others : (now wanted es : List Entry) → Listed wanted es → Differ now
 differ_others now wanted [] h = tt
 differ_others now wanted (e ∷ es) h = pick (pair_eq (value_of now e.parameter) e.value) refl (differ_others now wanted es h.1)
   where
-    pick : (b : Bool) → pair_eq (value_of now e.parameter) e.value ≡ b → Differ now wanted (filter (wants_other now) es) → Differ now wanted (cond (not b) (e ∷ filter (wants_other now) es) (filter (wants_other now) es))
+    pick : (b : Bool) → pair_eq (value_of now e.parameter) e.value ≡ b → Differ now wanted (filter (wants_other now) es)
+        → Differ now wanted (cond (not b) (e ∷ filter (wants_other now) es) (filter (wants_other now) es))
     pick true f r = r
     pick false f r = (λ x. false≢true (sym f ∙ pair_eq-same (value_of now e.parameter) e.value (x ∙ h.0)), r)
 
@@ -56,7 +59,8 @@ pub changes_differ : (now wanted : List Entry) → IsCanonical now → IsCanonic
 changes_differ now wanted hn hw = differ_append now wanted (to_default now wanted) (to_other now wanted) (differ_defaults now wanted now (sticks_all now hn)) (differ_others now wanted wanted (listed_all wanted hw))
 
 -- one that doesn't differ isn't among them
-pub same_missed : (now wanted es : List Entry) (q : Parameter) → Differ now wanted es → value_of now q ≡ value_of wanted q → Misses (rank q) es
+pub same_missed : (now wanted es : List Entry) (q : Parameter) → Differ now wanted es → value_of now q ≡ value_of wanted q
+    → Misses (rank q) es
 same_missed now wanted [] q h e = tt
 same_missed now wanted (x ∷ es) q h e = (λ r. h.0 (value_by now x.parameter q r ∙ e ∙ value_by wanted q x.parameter (sym r)), same_missed now wanted es q h.1 e)
 
@@ -86,7 +90,8 @@ pub changes_those : (now wanted : State) (p : Parameter) → IsWellFormed now �
     → entries_of p (changed now wanted) ≡ cond (pair_eq (value_of now.own.params p) (value_of wanted.own.params p)) 0 1
 changes_those now wanted p hn hw = pick (pair_eq (value_of now.own.params p) (value_of wanted.own.params p)) refl
   where
-    pick : (b : Bool) → pair_eq (value_of now.own.params p) (value_of wanted.own.params p) ≡ b → entries_of p (changed now wanted) ≡ cond b 0 1
+    pick : (b : Bool) → pair_eq (value_of now.own.params p) (value_of wanted.own.params p) ≡ b
+        → entries_of p (changed now wanted) ≡ cond b 0 1
     pick true e = none_of p (changed now wanted) (same_missed now.own.params wanted.own.params (changed now wanted) p (changes_differ now.own.params wanted.own.params hn.canonical hw.canonical) (pair_eq-true (value_of now.own.params p) (value_of wanted.own.params p) e))
     pick false e =
         let some : entries_of p (changed now wanted) ≢ 0 = λ z. false≢true (sym e ∙ pair_eq-same (value_of now.own.params p) (value_of wanted.own.params p)
@@ -97,11 +102,13 @@ changes_those now wanted p hn hw = pick (pair_eq (value_of now.own.params p) (va
 -- ---- nothing, or one
 
 -- where no value differs, none is set
-pub none_changed : (now wanted es : List Entry) → Differ now wanted es → ((q : Parameter) → value_of now q ≡ value_of wanted q) → es ≡ []
+pub none_changed : (now wanted es : List Entry) → Differ now wanted es
+    → ((q : Parameter) → value_of now q ≡ value_of wanted q) → es ≡ []
 none_changed now wanted [] d h = refl
 none_changed now wanted (e ∷ es) d h = absurd (d.0 (h e.parameter))
 
-same_number : (b d : Bool) (h l i m : ℕ) → h < 128 → l < 128 → i < 128 → m < 128 → cond b 0 16384 + 128 * h + l ≡ cond d 0 16384 + 128 * i + m
+same_number : (b d : Bool) (h l i m : ℕ) → h < 128 → l < 128 → i < 128 → m < 128
+    → cond b 0 16384 + 128 * h + l ≡ cond d 0 16384 + 128 * i + m
     → (let p : Parameter = record { registered = b; high = h; low = l } in let q : Parameter = record { registered = d; high = i; low = m } in p ≡ q)
 same_number true true h l i m a c e f s = let x : h ≡ i = omega arith in let y : l ≡ m = omega arith in rw (x, y) refl
 same_number false false h l i m a c e f s = let x : h ≡ i = omega arith in let y : l ≡ m = omega arith in rw (x, y) refl
@@ -112,8 +119,10 @@ pub same_rank : (p q : Parameter) → IsSmall p → IsSmall q → rank p ≡ ran
 same_rank p q h k e = same_number p.registered q.registered p.high p.low q.high q.low h.high h.low k.high k.low e
 
 -- where one alone differs, it alone is set
-pub one_changed : (now wanted es : List Entry) (p : Parameter) → IsSmall p → AreEntered es → Apart es → Differ now wanted es → ((q : Parameter) → rank q ≢ rank p → value_of now q ≡ value_of wanted q)
-    → value_or es (value_of now p) p ≡ value_of wanted p → value_of now p ≢ value_of wanted p → es ≡ record { parameter = p; value = value_of wanted p } ∷ []
+pub one_changed : (now wanted es : List Entry) (p : Parameter) → IsSmall p → AreEntered es → Apart es → Differ now wanted es
+    → ((q : Parameter) → rank q ≢ rank p → value_of now q ≡ value_of wanted q)
+    → value_or es (value_of now p) p ≡ value_of wanted p → value_of now p ≢ value_of wanted p
+    → es ≡ record { parameter = p; value = value_of wanted p } ∷ []
 one_changed now wanted [] p sp h a d o v x = absurd (x v)
 one_changed now wanted (e ∷ es) p sp h a d o v x =
     let r : rank e.parameter ≡ rank p = same e d.0 in

@@ -87,7 +87,8 @@ keeps t c now wanted n = keeps_then n (pedalled t c now.own wanted.own n) (follo
 
 -- ---- the other channels
 
-other_pressure : (t c d k : ℕ) (now wanted : State) (ns : List Note) → d ≢ c → key_pressure (map (followed t c now wanted) ns) d k ≡ key_pressure ns d k
+other_pressure : (t c d k : ℕ) (now wanted : State) (ns : List Note) → d ≢ c
+    → key_pressure (map (followed t c now wanted) ns) d k ≡ key_pressure ns d k
 other_pressure t c d k now wanted [] h = refl
 other_pressure t c d k now wanted (n ∷ ns) h = elim (cases_eq n.channel c) [
   | inl e ↦
@@ -101,11 +102,13 @@ other_pressure t c d k now wanted (n ∷ ns) h = elim (cases_eq n.channel c) [
     past : (m : Note) (ms : List Note) → nat_eq m.channel d ≡ false → key_pressure (m ∷ ms) d k ≡ key_pressure ms d k
     past m ms e = ap (λ b. cond b m.pressure (key_pressure ms d k)) (and_left (is_at d k m) (sounds m) (and_left (nat_eq m.channel d) (nat_eq m.key k) e))
 
-pressures_same : (xs bs : List Note) (d i m : ℕ) → ((k : ℕ) → key_pressure xs d k ≡ key_pressure bs d k) → key_pressures xs d i m ≡ key_pressures bs d i m
+pressures_same : (xs bs : List Note) (d i m : ℕ) → ((k : ℕ) → key_pressure xs d k ≡ key_pressure bs d k)
+    → key_pressures xs d i m ≡ key_pressures bs d i m
 pressures_same xs bs d i zero h = refl
 pressures_same xs bs d i (suc m) h = rw (h i, pressures_same xs bs d (suc i) m h) refl
 
-pub leaves_others : Laws → (m : Music) (t track c d : ℕ) (now wanted : State) → IsSettled m → m.zones ≡ no_zones → c ≤ 15 → IsWellFormed now → IsWellFormed wanted → now.own ≡ channel_at m c
+pub leaves_others : Laws → (m : Music) (t track c d : ℕ) (now wanted : State) → IsSettled m → m.zones ≡ no_zones → c ≤ 15
+    → IsWellFormed now → IsWellFormed wanted → now.own ≡ channel_at m c
     → d ≢ c → state_at (brought_to m t track c now wanted) d ≡ state_at m d
 leaves_others l m t track c d now wanted s z ok hn hw own h =
     let b = plays l m t track c now wanted s z ok hn hw own in
@@ -117,7 +120,8 @@ leaves_others l m t track c d now wanted s z ok hn hw own h =
 
 -- ---- a silent channel
 
-silent_notes : (t c : ℕ) (now wanted : State) (ns : List Note) → ((k : ℕ) → sounding_on c k ns ≡ 0) → map (followed t c now wanted) ns ≡ ns
+silent_notes : (t c : ℕ) (now wanted : State) (ns : List Note) → ((k : ℕ) → sounding_on c k ns ≡ 0)
+    → map (followed t c now wanted) ns ≡ ns
 silent_notes t c now wanted [] h = refl
 silent_notes t c now wanted (n ∷ ns) h =
     rw (one, silent_notes t c now wanted ns (λ k. rest k (is_at c k n && sounds n) (h k))) refl
@@ -140,13 +144,15 @@ silent_notes t c now wanted (n ∷ ns) h =
         quiet true false s e f g = absurd (false≢true f)
         quiet false b s e f g = absurd (false≢true e)
 
-pub leaves_silent : Laws → (m : Music) (t track c : ℕ) (now wanted : State) → IsSettled m → m.zones ≡ no_zones → c ≤ 15 → IsWellFormed now → IsWellFormed wanted → now.own ≡ channel_at m c
+pub leaves_silent : Laws → (m : Music) (t track c : ℕ) (now wanted : State) → IsSettled m → m.zones ≡ no_zones → c ≤ 15
+    → IsWellFormed now → IsWellFormed wanted → now.own ≡ channel_at m c
     → ((k : ℕ) → sounding_on c k m.notes ≡ 0) → (brought_to m t track c now wanted).notes ≡ m.notes
 leaves_silent l m t track c now wanted s z ok hn hw own h = (plays l m t track c now wanted s z ok hn hw own).notes ∙ silent_notes t c now wanted m.notes h
 
 -- ---- pedals that stay
 
-pub calm_music : (m : Music) (t c : ℕ) (s : Channel) → IsSettled m → m.zones ≡ no_zones → c < length m.channels → s ≡ channel_at m c → Calm t m.channels c (control_of s 64) m.notes
+pub calm_music : (m : Music) (t c : ℕ) (s : Channel) → IsSettled m → m.zones ≡ no_zones → c < length m.channels
+    → s ≡ channel_at m c → Calm t m.channels c (control_of s 64) m.notes
 calm_music m t c s h z low own =
     let ss : List Channel = m.channels in
     let put : set ss c s ≡ ss = ap (λ x. set ss c x) own ∙ set-get_or ss c default_channel in
@@ -160,24 +166,31 @@ sostenuto_stays z c a b n e =
     ap (λ d. cond (nat_eq (governor z n.channel) c && sounds n) (cond (is_pedal_down a) (cond d n (record n { captured = false })) (cond (d && is_down n) (record n { captured = true }) n)) n) e
     ∙ sostenuto_same z c a n
 
-stays : (t : ℕ) (ss : List Channel) (c : ℕ) (now wanted : Channel) (n : Note) → is_pedal_down (control_of wanted 64) ≡ is_pedal_down (control_of now 64) → is_pedal_down (control_of wanted 66) ≡ is_pedal_down (control_of now 66)
+stays : (t : ℕ) (ss : List Channel) (c : ℕ) (now wanted : Channel) (n : Note)
+    → is_pedal_down (control_of wanted 64) ≡ is_pedal_down (control_of now 64)
+    → is_pedal_down (control_of wanted 66) ≡ is_pedal_down (control_of now 66)
     → settled_by t ss c (control_of now 64) n ≡ n → pedalled t c now wanted n ≡ n
 stays t ss c now wanted n e f h = pick (nat_eq n.channel c) refl
   where
-    pick : (b : Bool) → nat_eq n.channel c ≡ b → cond b (let_go t (control_of wanted 64) (sostenuto no_zones c (control_of now 66) (control_of wanted 66) n)) n ≡ n
+    pick : (b : Bool) → nat_eq n.channel c ≡ b
+        → cond b (let_go t (control_of wanted 64) (sostenuto no_zones c (control_of now 66) (control_of wanted 66) n)) n ≡ n
     pick false x = refl
     pick true x =
         ap (let_go t (control_of wanted 64)) (sostenuto_stays no_zones c (control_of now 66) (control_of wanted 66) n f)
         ∙ ap (λ d. cond (is_some n.release && (not n.captured && not d)) (ending t n) n) e
         ∙ ap (λ b. let_go t (cond b (control_of now 64) (control_of (get_or ss n.channel default_channel) 64)) n) (sym x) ∙ h
 
-all_stay : (t : ℕ) (ss : List Channel) (c : ℕ) (now wanted : State) (ns : List Note) → is_pedal_down (control_of wanted.own 64) ≡ is_pedal_down (control_of now.own 64) → is_pedal_down (control_of wanted.own 66) ≡ is_pedal_down (control_of now.own 66)
+all_stay : (t : ℕ) (ss : List Channel) (c : ℕ) (now wanted : State) (ns : List Note)
+    → is_pedal_down (control_of wanted.own 64) ≡ is_pedal_down (control_of now.own 64)
+    → is_pedal_down (control_of wanted.own 66) ≡ is_pedal_down (control_of now.own 66)
     → Calm t ss c (control_of now.own 64) ns → map (followed t c now wanted) ns ≡ map (pressed c now.keys wanted.keys) ns
 all_stay t ss c now wanted [] e f h = refl
 all_stay t ss c now wanted (n ∷ ns) e f h = rw (stays t ss c now.own wanted.own n e f h.0, all_stay t ss c now wanted ns e f h.1) refl
 
-pub ends_none : Laws → (m : Music) (t track c : ℕ) (now wanted : State) → IsSettled m → m.zones ≡ no_zones → c ≤ 15 → IsWellFormed now → IsWellFormed wanted → now.own ≡ channel_at m c
-    → is_pedal_down (control_of wanted.own 64) ≡ is_pedal_down (control_of now.own 64) → is_pedal_down (control_of wanted.own 66) ≡ is_pedal_down (control_of now.own 66)
+pub ends_none : Laws → (m : Music) (t track c : ℕ) (now wanted : State) → IsSettled m → m.zones ≡ no_zones → c ≤ 15
+    → IsWellFormed now → IsWellFormed wanted → now.own ≡ channel_at m c
+    → is_pedal_down (control_of wanted.own 64) ≡ is_pedal_down (control_of now.own 64)
+    → is_pedal_down (control_of wanted.own 66) ≡ is_pedal_down (control_of now.own 66)
     → (brought_to m t track c now wanted).notes ≡ map (pressed c now.keys wanted.keys) m.notes
 ends_none l m t track c now wanted s z ok hn hw own e f =
     (plays l m t track c now wanted s z ok hn hw own).notes ∙ all_stay t m.channels c now wanted m.notes e f (calm_music m t c now.own s z (omega (arith, s.channels, ok)) own)

@@ -25,10 +25,12 @@ pub value_bytes : (es : List Entry) (p : Parameter) → AreEntered es → Bytes 
 value_bytes [] p h = default_bytes (nat_eq (rank p) 0) (nat_eq (rank p) 5)
 value_bytes (e ∷ es) p h = cond_both (nat_eq (rank e.parameter) (rank p)) e.value (value_of es p) Bytes (λ _. (h.0.high, h.0.low)) (λ _. value_bytes es p h.1)
 
-pub entered_front : (p : Parameter) (v : ℕ × ℕ) (es : List Entry) → (let e : Entry = record { parameter = p; value = v } in IsEntered e) → AreEntered es → AreEntered (with_front p v es)
+pub entered_front : (p : Parameter) (v : ℕ × ℕ) (es : List Entry)
+    → (let e : Entry = record { parameter = p; value = v } in IsEntered e) → AreEntered es → AreEntered (with_front p v es)
 entered_front p v es e h = cond_both (pair_eq v (default_value p)) es (record { parameter = p; value = v } ∷ es) AreEntered (λ _. h) (λ _. (e, h))
 
-pub entered_put : (p : Parameter) (v : ℕ × ℕ) (es : List Entry) → (let e : Entry = record { parameter = p; value = v } in IsEntered e) → AreEntered es → AreEntered (put p v es)
+pub entered_put : (p : Parameter) (v : ℕ × ℕ) (es : List Entry)
+    → (let e : Entry = record { parameter = p; value = v } in IsEntered e) → AreEntered es → AreEntered (put p v es)
 entered_put p v [] e h = entered_front p v [] e tt
 entered_put p v (x ∷ es) e h =
     let r : Bool = nat_eq (rank x.parameter) (rank p) in
@@ -95,7 +97,8 @@ pub record Controls (xs : List ℕ) : Type 0 where
   unstored : (n : ℕ) → is_stored n ≡ false → get_or xs n 0 ≡ 0
   bytes : (n : ℕ) → get_or xs n 0 ≤ 127
 
-pub unstored_set : (xs : List ℕ) (i v : ℕ) → is_stored i ≡ true → ((n : ℕ) → is_stored n ≡ false → get_or xs n 0 ≡ 0) → (n : ℕ) → is_stored n ≡ false → get_or (set xs i v) n 0 ≡ 0
+pub unstored_set : (xs : List ℕ) (i v : ℕ) → is_stored i ≡ true → ((n : ℕ) → is_stored n ≡ false → get_or xs n 0 ≡ 0)
+    → (n : ℕ) → is_stored n ≡ false → get_or (set xs i v) n 0 ≡ 0
 unstored_set xs i v s h n u = get_or-set_other xs i n v 0 (λ e. false≢true (sym u ∙ ap is_stored e ∙ s)) ∙ h n u
 
 controls_set : (xs : List ℕ) (i v : ℕ) → is_stored i ≡ true → v ≤ 127 → Controls xs → Controls (set xs i v)
@@ -124,7 +127,8 @@ pub record Rest (v : Voice) (b p : ℕ) : Type 0 where
   pub bend : b ≤ 16383
   pub pressure : p ≤ 127
 
-pub made : (s : State) → Controls s.own.controls → Selected s.own.selection → Good s.own.params → Rest s.own.voice s.own.bend s.own.pressure → Keys s.keys → IsWellFormed s
+pub made : (s : State) → Controls s.own.controls → Selected s.own.selection → Good s.own.params
+    → Rest s.own.voice s.own.bend s.own.pressure → Keys s.keys → IsWellFormed s
 made s c sel p r k = record {
   controls = c.length;
   unstored = c.unstored;

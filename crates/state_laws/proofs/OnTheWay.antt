@@ -27,7 +27,8 @@ chosen_value c v Nowhere s e = refl
 chosen_value c v ZoneSize s e = refl
 chosen_value c v TuningProgram s e = absurd (false≢true e)
 
-chosen_role : (m : Music) (c v : ℕ) (r : Role) (s : Tuning) → only_sets_by (channel_at m c).selection r ≡ true → chosen_by m c v r s ≡ s
+chosen_role : (m : Music) (c v : ℕ) (r : Role) (s : Tuning) → only_sets_by (channel_at m c).selection r ≡ true
+    → chosen_by m c v r s ≡ s
 chosen_role m c v EntryHigh s e = chosen_value c v (target (channel_at m c).selection) s e
 chosen_role m c v Stored s e = refl
 chosen_role m c v EntryLow s e = refl
@@ -40,7 +41,8 @@ chosen_role m c v ResetControllers s e = refl
 chosen_role m c v AllNotesOff s e = refl
 chosen_role m c v Ignored s e = refl
 
-tuning_same : (m : Music) (c : ℕ) (st : State) (msg : Msg) (s : Tuning) → channel_at m c ≡ st.own → OnlySets c st msg → tuning_heard m msg s ≡ s
+tuning_same : (m : Music) (c : ℕ) (st : State) (msg : Msg) (s : Tuning) → channel_at m c ≡ st.own → OnlySets c st msg
+    → tuning_heard m msg s ≡ s
 tuning_same m c st (Control d n v) s e h =
     let x : channel_at m d ≡ st.own = ap (λ i. channel_at m i) h.channel ∙ e in
     chosen_role m d v (role n) s (ap (λ y. only_sets_by y.selection (role n)) x ∙ h.sets)
@@ -51,7 +53,8 @@ tuning_same m c st (Program d p) s e h = refl
 tuning_same m c st (Pressure d v) s e h = refl
 tuning_same m c st (Bend d v) s e h = refl
 
-tuning_along : (r : Receiver) (t track : ℕ) (ss : List Channel) (c : ℕ) (st : State) (ns : List Note) (ms : List Msg) → c < length ss → r.music ≡ music_of ss c st.own ns → Along (OnlySets c) st ms
+tuning_along : (r : Receiver) (t track : ℕ) (ss : List Channel) (c : ℕ) (st : State) (ns : List Note) (ms : List Msg)
+    → c < length ss → r.music ≡ music_of ss c st.own ns → Along (OnlySets c) st ms
     → (receive_all r (events_of t track ms)).tuning ≡ r.tuning
 tuning_along r t track ss c st ns [] low e a = refl
 tuning_along r t track ss c st ns (x ∷ ms) low e a =
@@ -62,7 +65,8 @@ tuning_along r t track ss c st ns (x ∷ ms) low e a =
     tuning_along (record { music = settle t (act t x r.music); tuning = tuning_heard r.music x r.tuning }) t track ss c (apply_state st x) (map (settled_by t ss c (control_of now 64)) (notes_after m t x)) ms low next a.1
     ∙ tuning_same r.music c st x r.tuning (ap (λ y. channel_at y c) e ∙ own) a.0
 
-pub keeps_tuning : Laws → (r : Receiver) (t track c : ℕ) (now wanted : State) → IsSettled r.music → r.music.zones ≡ no_zones → c ≤ 15 → IsWellFormed now → IsWellFormed wanted → now.own ≡ channel_at r.music c
+pub keeps_tuning : Laws → (r : Receiver) (t track c : ℕ) (now wanted : State) → IsSettled r.music → r.music.zones ≡ no_zones
+    → c ≤ 15 → IsWellFormed now → IsWellFormed wanted → now.own ≡ channel_at r.music c
     → (receive_all r (events_of t track (bring c now wanted))).tuning ≡ r.tuning
 keeps_tuning l r t track c now wanted s z ok hn hw own =
     let m : Music = r.music in
@@ -74,7 +78,8 @@ keeps_tuning l r t track c now wanted s z ok hn hw own =
 
 -- ---- the channel on the way
 
-own_along : (t : ℕ) (ss : List Channel) (c : ℕ) (st : State) (ns : List Note) (ms : List Msg) → c < length ss → Along (OnlySets c) st ms → channel_at (sounded t (music_of ss c st.own ns) ms) c ≡ (apply_all st ms).own
+own_along : (t : ℕ) (ss : List Channel) (c : ℕ) (st : State) (ns : List Note) (ms : List Msg) → c < length ss
+    → Along (OnlySets c) st ms → channel_at (sounded t (music_of ss c st.own ns) ms) c ≡ (apply_all st ms).own
 own_along t ss c st ns [] low a = get_or-set_same ss c st.own default_channel low
 own_along t ss c st ns (x ∷ ms) low a =
     let m : Music = music_of ss c st.own ns in
@@ -87,7 +92,8 @@ along_take P zero s ms h = tt
 along_take P (suc k) s [] h = tt
 along_take P (suc k) s (m ∷ ms) h = (h.0, along_take P k (apply_state s m) ms h.1)
 
-pub room_on_the_way : Laws → (m : Music) (t track c k : ℕ) (now wanted : State) → IsSettled m → m.zones ≡ no_zones → c ≤ 15 → IsWellFormed now → IsWellFormed wanted → now.own ≡ channel_at m c
+pub room_on_the_way : Laws → (m : Music) (t track c k : ℕ) (now wanted : State) → IsSettled m → m.zones ≡ no_zones → c ≤ 15
+    → IsWellFormed now → IsWellFormed wanted → now.own ≡ channel_at m c
     → counted (channel_at (play m (events_of t track (take k (bring c now wanted)))) c) ≤ max (counted now.own) (counted wanted.own)
 room_on_the_way l m t track c k now wanted s z ok hn hw own =
     let ss : List Channel = m.channels in

@@ -46,7 +46,8 @@ hold_by ss c v n = cond (nat_eq n.channel c) v (control_of (get_or ss n.channel 
 abbrev pub settled_by : ℕ → List Channel → ℕ → ℕ → Note → Note
 settled_by t ss c v n = let_go t (hold_by ss c v n) n
 
-pub pedal_is : (ss : List Channel) (c : ℕ) (s : Channel) (n : Note) → c < length ss → pedal (set ss c s) no_zones n ≡ hold_by ss c (control_of s 64) n
+pub pedal_is : (ss : List Channel) (c : ℕ) (s : Channel) (n : Note) → c < length ss
+    → pedal (set ss c s) no_zones n ≡ hold_by ss c (control_of s 64) n
 pedal_is ss c s n low = ap (λ d. control_of (get_or (set ss c s) d default_channel) 64) (own_governor n.channel) ∙ (elim (cases_eq n.channel c) [
   | inl e ↦ ap (λ d. control_of (get_or (set ss c s) d default_channel) 64) e ∙ ap (λ x. control_of x 64) (get_or-set_same ss c s default_channel low)
       ∙ ap (λ b. cond b (control_of s 64) (control_of (get_or ss n.channel default_channel) 64)) (sym (eq-eqb n.channel c e))
@@ -54,7 +55,8 @@ pedal_is ss c s n low = ap (λ d. control_of (get_or (set ss c s) d default_chan
       ∙ ap (λ b. cond b (control_of s 64) (control_of (get_or ss n.channel default_channel) 64)) (sym (ne_eqb n.channel c e))
 ])
 
-pub settle_is : (t : ℕ) (ss : List Channel) (c : ℕ) (s : Channel) (n : Note) → c < length ss → settle_note (set ss c s) no_zones t n ≡ settled_by t ss c (control_of s 64) n
+pub settle_is : (t : ℕ) (ss : List Channel) (c : ℕ) (s : Channel) (n : Note) → c < length ss
+    → settle_note (set ss c s) no_zones t n ≡ settled_by t ss c (control_of s 64) n
 settle_is t ss c s n low = ap (λ v. let_go t v n) (pedal_is ss c s n low)
 
 -- whether nothing holds a note
@@ -62,14 +64,16 @@ abbrev pub is_free : ℕ → Note → Bool
 is_free hold n = is_some n.release && (not n.captured && not (is_pedal_down hold))
 
 -- ending changes only the end
-pub ending_keeps : {A : Type 0} (f : Note → A) (t : ℕ) (n : Note) → ((e : Option ℕ) → (let x : Note = record n { ended = e } in f x ≡ f n)) → f (ending t n) ≡ f n
+pub ending_keeps : {A : Type 0} (f : Note → A) (t : ℕ) (n : Note)
+    → ((e : Option ℕ) → (let x : Note = record n { ended = e } in f x ≡ f n)) → f (ending t n) ≡ f n
 ending_keeps f t n h = pick (sounds n)
   where
     pick : (b : Bool) → f (cond b (record n { ended = Some t }) n) ≡ f n
     pick true = h (Some t)
     pick false = refl
 
-pub let_go_keeps : {A : Type 0} (f : Note → A) (t hold : ℕ) (n : Note) → ((e : Option ℕ) → (let x : Note = record n { ended = e } in f x ≡ f n)) → f (let_go t hold n) ≡ f n
+pub let_go_keeps : {A : Type 0} (f : Note → A) (t hold : ℕ) (n : Note)
+    → ((e : Option ℕ) → (let x : Note = record n { ended = e } in f x ≡ f n)) → f (let_go t hold n) ≡ f n
 let_go_keeps f t hold n h = pick (is_free hold n)
   where
     pick : (b : Bool) → f (cond b (ending t n) n) ≡ f n
@@ -79,7 +83,8 @@ let_go_keeps f t hold n h = pick (is_free hold n)
 pub hold_settled : (t : ℕ) (ss : List Channel) (c v w : ℕ) (n : Note) → hold_by ss c w (settled_by t ss c v n) ≡ hold_by ss c w n
 hold_settled t ss c v w n = let_go_keeps (hold_by ss c w) t (hold_by ss c v n) n (λ e. refl)
 
-pub free_settled : (t : ℕ) (ss : List Channel) (c v : ℕ) (n : Note) → is_free (hold_by ss c v (settled_by t ss c v n)) (settled_by t ss c v n) ≡ is_free (hold_by ss c v n) n
+pub free_settled : (t : ℕ) (ss : List Channel) (c v : ℕ) (n : Note)
+    → is_free (hold_by ss c v (settled_by t ss c v n)) (settled_by t ss c v n) ≡ is_free (hold_by ss c v n) n
 free_settled t ss c v n = let_go_keeps (λ x. is_free (hold_by ss c v x) x) t (hold_by ss c v n) n (λ e. refl)
 
 ending_twice : (t : ℕ) (n : Note) → ending t (ending t n) ≡ ending t n
@@ -89,7 +94,8 @@ ending_twice t n = pick (sounds n) refl
     pick true e = refl
     pick false e = ap (λ x. cond x (record n { ended = Some t }) n) e
 
-pub settled_twice : (t : ℕ) (ss : List Channel) (c v : ℕ) (n : Note) → settled_by t ss c v (settled_by t ss c v n) ≡ settled_by t ss c v n
+pub settled_twice : (t : ℕ) (ss : List Channel) (c v : ℕ) (n : Note)
+    → settled_by t ss c v (settled_by t ss c v n) ≡ settled_by t ss c v n
 settled_twice t ss c v n = pick (is_free (hold_by ss c v n) n) refl
   where
     free_ending : is_free (hold_by ss c v (ending t n)) (ending t n) ≡ is_free (hold_by ss c v n) n
@@ -121,15 +127,18 @@ calm_after t ss c v (n ∷ ns) = (settled_twice t ss c v n, calm_after t ss c v 
 pub sostenuto_same : (z : Zones) (c a : ℕ) (n : Note) → sostenuto z c a a n ≡ n
 sostenuto_same z c a n = pick (nat_eq (governor z n.channel) c && sounds n) (is_pedal_down a)
   where
-    pick : (x d : Bool) → cond x (cond d (cond d n (record n { captured = false })) (cond (d && is_down n) (record n { captured = true }) n)) n ≡ n
+    pick : (x d : Bool)
+        → cond x (cond d (cond d n (record n { captured = false })) (cond (d && is_down n) (record n { captured = true }) n)) n ≡ n
     pick true true = refl
     pick true false = refl
     pick false d = refl
 
-pub sostenuto_keeps : {A : Type 0} (f : Note → A) (z : Zones) (c a b : ℕ) (n : Note) → ((d : Bool) → (let x : Note = record n { captured = d } in f x ≡ f n)) → f (sostenuto z c a b n) ≡ f n
+pub sostenuto_keeps : {A : Type 0} (f : Note → A) (z : Zones) (c a b : ℕ) (n : Note)
+    → ((d : Bool) → (let x : Note = record n { captured = d } in f x ≡ f n)) → f (sostenuto z c a b n) ≡ f n
 sostenuto_keeps f z c a b n h = pick (nat_eq (governor z n.channel) c && sounds n) (is_pedal_down a) (is_pedal_down b) (is_pedal_down b && is_down n)
   where
-    pick : (x d e g : Bool) → f (cond x (cond d (cond e n (record n { captured = false })) (cond g (record n { captured = true }) n)) n) ≡ f n
+    pick : (x d e g : Bool)
+        → f (cond x (cond d (cond e n (record n { captured = false })) (cond g (record n { captured = true }) n)) n) ≡ f n
     pick true true true g = refl
     pick true true false g = h false
     pick true false e true = h true
@@ -145,7 +154,8 @@ sostenuto_free z c a b hold n e =
     let d : is_down n ≡ false = and_right (sounds n) (not (is_some n.release)) (ap not t.0) in
     pick (nat_eq (governor z n.channel) c && sounds n) (is_pedal_down a) (is_pedal_down b) (is_pedal_down b && is_down n) k (and_right (is_pedal_down b) (is_down n) d)
   where
-    pick : (x d e g : Bool) → n.captured ≡ false → g ≡ false → cond x (cond d (cond e n (record n { captured = false })) (cond g (record n { captured = true }) n)) n ≡ n
+    pick : (x d e g : Bool) → n.captured ≡ false → g ≡ false
+        → cond x (cond d (cond e n (record n { captured = false })) (cond g (record n { captured = true }) n)) n ≡ n
     pick true true true g k f = refl
     pick true true false g k f = ap (λ b. record n { captured = b }) (sym k)
     pick true false e true k f = absurd (true≢false f)
@@ -163,7 +173,8 @@ settled_first t ss c v a b n = elim (cases_Bool (is_free (hold_by ss c v n) n)) 
 ]
 
 -- both pedals, seen from one note
-pub stroke_is : (t : ℕ) (ss : List Channel) (c : ℕ) (now wanted : Channel) (n : Note) → settled_by t ss c (control_of now 64) n ≡ n
+pub stroke_is : (t : ℕ) (ss : List Channel) (c : ℕ) (now wanted : Channel) (n : Note)
+    → settled_by t ss c (control_of now 64) n ≡ n
     → settled_by t ss c (control_of wanted 64) (sostenuto no_zones c (control_of now 66) (control_of wanted 66) n) ≡ pedalled t c now wanted n
 stroke_is t ss c now wanted n h =
     let a : ℕ = control_of now 66 in
@@ -190,23 +201,27 @@ strokes_are t ss c now wanted (n ∷ ns) h = rw (stroke_is t ss c now wanted n h
 -- ---- key pressures
 
 -- a note that sounds and is calm is held by something
-pub held : (t : ℕ) (ss : List Channel) (c v : ℕ) (n : Note) → settled_by t ss c v n ≡ n → sounds n ≡ true → is_free (hold_by ss c v n) n ≡ false
+pub held : (t : ℕ) (ss : List Channel) (c v : ℕ) (n : Note) → settled_by t ss c v n ≡ n → sounds n ≡ true
+    → is_free (hold_by ss c v n) n ≡ false
 held t ss c v n h s = elim (cases_Bool (is_free (hold_by ss c v n) n)) [
   | inl e ↦ absurd (false≢true (ap sounds (sym (ap (λ b. cond b (record n { ended = Some t }) n) s) ∙ sym (ap (λ b. cond b (ending t n) n) e) ∙ h) ∙ s))
   | inr e ↦ e
 ]
 
 -- a key pressure leaves it calm
-pub calm_pressure : (t : ℕ) (ss : List Channel) (c v d k y : ℕ) (n : Note) → settled_by t ss c v n ≡ n → settled_by t ss c v (with_pressure d k y n) ≡ with_pressure d k y n
+pub calm_pressure : (t : ℕ) (ss : List Channel) (c v d k y : ℕ) (n : Note) → settled_by t ss c v n ≡ n
+    → settled_by t ss c v (with_pressure d k y n) ≡ with_pressure d k y n
 calm_pressure t ss c v d k y n h = pick (is_at d k n && sounds n) refl
   where
-    pick : (w : Bool) → (is_at d k n && sounds n) ≡ w → settled_by t ss c v (cond w (record n { pressure = y }) n) ≡ cond w (record n { pressure = y }) n
+    pick : (w : Bool) → (is_at d k n && sounds n) ≡ w
+        → settled_by t ss c v (cond w (record n { pressure = y }) n) ≡ cond w (record n { pressure = y }) n
     pick false f = h
     pick true f =
         let s : sounds n ≡ true = (and_parts (is_at d k n) (sounds n) f).1 in
         ap (λ b. let x : Note = record n { pressure = y } in cond b (ending t x) x) (held t ss c v n h s)
 
-pub calm_pressures : (t : ℕ) (ss : List Channel) (c v d k y : ℕ) (ns : List Note) → Calm t ss c v ns → Calm t ss c v (map (with_pressure d k y) ns)
+pub calm_pressures : (t : ℕ) (ss : List Channel) (c v d k y : ℕ) (ns : List Note) → Calm t ss c v ns
+    → Calm t ss c v (map (with_pressure d k y) ns)
 calm_pressures t ss c v d k y [] h = tt
 calm_pressures t ss c v d k y (n ∷ ns) h = (calm_pressure t ss c v d k y n h.0, calm_pressures t ss c v d k y ns h.1)
 
@@ -215,7 +230,8 @@ abbrev pub press : ℕ → ℕ → List ℕ → List ℕ → Note → Note
 press c k (x ∷ xs) (y ∷ ys) n = press c (k + 1) xs ys (cond (nat_eq x y) n (with_pressure c k y n))
 press c k _ _ n = n
 
-pressure_keeps : {A : Type 0} (f : Note → A) (c k y : ℕ) (b : Bool) (n : Note) → ((p : ℕ) → (let x : Note = record n { pressure = p } in f x ≡ f n)) → f (cond b n (with_pressure c k y n)) ≡ f n
+pressure_keeps : {A : Type 0} (f : Note → A) (c k y : ℕ) (b : Bool) (n : Note)
+    → ((p : ℕ) → (let x : Note = record n { pressure = p } in f x ≡ f n)) → f (cond b n (with_pressure c k y n)) ≡ f n
 pressure_keeps f c k y b n h = pick b (is_at c k n && sounds n)
   where
     pick : (b w : Bool) → f (cond b n (cond w (record n { pressure = y }) n)) ≡ f n
@@ -248,14 +264,16 @@ pass false n = refl
 this_key : (c k x y : ℕ) (n : Note) → n.key ≡ k → cond (nat_eq x y) n (with_pressure c k y n) ≡ pressed_by c x y n
 this_key c k x y n e = pick (nat_eq n.channel c) (nat_eq n.key k) (sounds n) (nat_eq x y) (eq-eqb n.key k e)
   where
-    pick : (a b s d : Bool) → b ≡ true → cond d n (cond ((a && b) && s) (record n { pressure = y }) n) ≡ cond ((a && s) && not d) (record n { pressure = y }) n
+    pick : (a b s d : Bool) → b ≡ true
+        → cond d n (cond ((a && b) && s) (record n { pressure = y }) n) ≡ cond ((a && s) && not d) (record n { pressure = y }) n
     pick true true true true f = refl
     pick true true true false f = refl
     pick true true false d f = pass d n
     pick false true s d f = pass d n
     pick a false s d f = absurd (false≢true f)
 
-press_at : (c k j : ℕ) (xs ys : List ℕ) (n : Note) → n.key ≡ k + j → length xs ≡ length ys → press c k xs ys n ≡ pressed_by c (get_or xs j 0) (get_or ys j 0) n
+press_at : (c k j : ℕ) (xs ys : List ℕ) (n : Note) → n.key ≡ k + j → length xs ≡ length ys
+    → press c k xs ys n ≡ pressed_by c (get_or xs j 0) (get_or ys j 0) n
 press_at c k j [] [] n e l = none (nat_eq n.channel c && sounds n)
   where
     none : (a : Bool) → n ≡ cond (a && false) (record n { pressure = 0 }) n
@@ -271,5 +289,6 @@ press_at c k zero (x ∷ xs) (y ∷ ys) n e l =
 press_at c k (suc j) (x ∷ xs) (y ∷ ys) n e l =
     ap (press c (k + 1) xs ys) (no_matter (nat_eq x y) (with_pressure c k y n) n (other_key c k y n (λ f. omega (arith, e, f)))) ∙ press_at c (k + 1) j xs ys n (omega (arith, e)) (omega (arith, l))
 
-pub press_is : (c : ℕ) (before after : List ℕ) (n : Note) → length before ≡ length after → press c 0 before after n ≡ pressed c before after n
+pub press_is : (c : ℕ) (before after : List ℕ) (n : Note) → length before ≡ length after
+    → press c 0 before after n ≡ pressed c before after n
 press_is c before after n l = press_at c 0 n.key before after n (omega arith) l

@@ -17,7 +17,8 @@ use Rattle.state_laws.proofs.Setting.{entered_changes, changed_all}
 -- ---- the controllers after the voice
 
 -- what holds of the controllers from before and of each list after a bank was set holds after a voice was chosen
-pub voice_controls-keep : (P : List ℕ → Type 0) (cs : List ℕ) (now v : Voice) → ((l : List ℕ) → P l → P (set l 0 v.high)) → ((l : List ℕ) → P l → P (set l 32 v.low)) → P cs → P (voice_controls cs now v)
+pub voice_controls-keep : (P : List ℕ → Type 0) (cs : List ℕ) (now v : Voice) → ((l : List ℕ) → P l → P (set l 0 v.high))
+    → ((l : List ℕ) → P l → P (set l 32 v.low)) → P cs → P (voice_controls cs now v)
 voice_controls-keep P cs now v h l p =
     let one : P (high_bank cs v.high) = cond_both (nat_eq (get_or cs 0 0) v.high) cs (set cs 0 v.high) P (λ _. p) (λ _. h cs p) in
     let two : P (banks cs v) = cond_both (nat_eq (get_or cs 32 0) v.low) (high_bank cs v.high) (set (high_bank cs v.high) 32 v.low) P (λ _. one) (λ _. l (high_bank cs v.high) one) in
@@ -38,17 +39,21 @@ sized s h = record { length = h.controls; unstored = h.unstored }
 
 -- ---- the steps
 
-pub pressed_reach : (s : State) (c v : ℕ) → apply_all s (where_differs s.own.pressure v (Pressure c v)) ≡ (let t : State = record { own = record s.own { pressure = v }; keys = s.keys } in t)
+pub pressed_reach : (s : State) (c v : ℕ)
+    → apply_all s (where_differs s.own.pressure v (Pressure c v)) ≡ (let t : State = record { own = record s.own { pressure = v }; keys = s.keys } in t)
 pressed_reach s c v = pick (nat_eq s.own.pressure v) refl
   where
-    pick : (b : Bool) → nat_eq s.own.pressure v ≡ b → apply_all s (cond b [] (Pressure c v ∷ [])) ≡ (let t : State = record { own = record s.own { pressure = v }; keys = s.keys } in t)
+    pick : (b : Bool) → nat_eq s.own.pressure v ≡ b
+        → apply_all s (cond b [] (Pressure c v ∷ [])) ≡ (let t : State = record { own = record s.own { pressure = v }; keys = s.keys } in t)
     pick true e = ap (λ x. let t : State = record { own = record s.own { pressure = x }; keys = s.keys } in t) (eqb-true s.own.pressure v e)
     pick false e = refl
 
-pub bent_reach : (s : State) (c v : ℕ) → apply_all s (where_differs s.own.bend v (Bend c v)) ≡ (let t : State = record { own = record s.own { bend = v }; keys = s.keys } in t)
+pub bent_reach : (s : State) (c v : ℕ)
+    → apply_all s (where_differs s.own.bend v (Bend c v)) ≡ (let t : State = record { own = record s.own { bend = v }; keys = s.keys } in t)
 bent_reach s c v = pick (nat_eq s.own.bend v) refl
   where
-    pick : (b : Bool) → nat_eq s.own.bend v ≡ b → apply_all s (cond b [] (Bend c v ∷ [])) ≡ (let t : State = record { own = record s.own { bend = v }; keys = s.keys } in t)
+    pick : (b : Bool) → nat_eq s.own.bend v ≡ b
+        → apply_all s (cond b [] (Bend c v ∷ [])) ≡ (let t : State = record { own = record s.own { bend = v }; keys = s.keys } in t)
     pick true e = ap (λ x. let t : State = record { own = record s.own { bend = x }; keys = s.keys } in t) (eqb-true s.own.bend v e)
     pick false e = refl
 
@@ -77,10 +82,12 @@ fifth_state now wanted = record { own = record wanted.own { selection = selectio
 abbrev pub last_state : State → State → State
 last_state now wanted = record { own = record wanted.own { selection = selection_then now wanted }; keys = wanted.keys }
 
-pub first_reach : (c : ℕ) (now wanted : State) → IsWellFormed now → apply_all now (bring_voice c now.own wanted.own.voice) ≡ first_state now wanted
+pub first_reach : (c : ℕ) (now wanted : State) → IsWellFormed now
+    → apply_all now (bring_voice c now.own wanted.own.voice) ≡ first_state now wanted
 first_reach c now wanted h = voice_reach now c wanted.own.voice h.controls
 
-pub second_reach : (c : ℕ) (now wanted : State) → IsWellFormed now → IsWellFormed wanted → apply_all (first_state now wanted) (bring_controls c 0 (first_state now wanted).own.controls wanted.own.controls) ≡ second_state now wanted
+pub second_reach : (c : ℕ) (now wanted : State) → IsWellFormed now → IsWellFormed wanted
+    → apply_all (first_state now wanted) (bring_controls c 0 (first_state now wanted).own.controls wanted.own.controls) ≡ second_state now wanted
 second_reach c now wanted hn hw =
     let t : State = first_state now wanted in
     let s = sized_voice now.own.controls now.own.voice wanted.own.voice (sized now hn) in
@@ -88,12 +95,14 @@ second_reach c now wanted hn hw =
     controls_reach t c 0 (λ l. l) from_start t.own.controls wanted.own.controls (s.length ∙ sym hw.controls)
     (λ i u. let v : is_stored i ≡ false = ap is_stored (sym (e i)) ∙ u in s.unstored i v ∙ sym (hw.unstored i v))
 
-pub third_reach : Laws → (c : ℕ) (now wanted : State) → IsWellFormed now → IsWellFormed wanted → apply_all (second_state now wanted) (closed c (bring_each c now.own.params (changed now wanted))) ≡ third_state now wanted
+pub third_reach : Laws → (c : ℕ) (now wanted : State) → IsWellFormed now → IsWellFormed wanted
+    → apply_all (second_state now wanted) (closed c (bring_each c now.own.params (changed now wanted))) ≡ third_state now wanted
 third_reach l c now wanted hn hw =
     closed_reach (second_state now wanted) now.own.selection now.own.params c now.own.params (changed now wanted) (entered_changes now.own.params wanted.own.params hn.entered hw.entered)
     ∙ ap (λ ps. at_params (second_state now wanted) (selection_then now wanted) ps) (changed_all l now.own.params wanted.own.params (hn.canonical, hn.entered) (hw.canonical, hw.entered))
 
-pub last_reach : (c : ℕ) (now wanted : State) → IsWellFormed now → IsWellFormed wanted → apply_all (fifth_state now wanted) (bring_keys c 0 now.keys wanted.keys) ≡ last_state now wanted
+pub last_reach : (c : ℕ) (now wanted : State) → IsWellFormed now → IsWellFormed wanted
+    → apply_all (fifth_state now wanted) (bring_keys c 0 now.keys wanted.keys) ≡ last_state now wanted
 last_reach c now wanted hn hw = keys_reach (fifth_state now wanted) c 0 (λ l. l) from_start now.keys wanted.keys (hn.keys ∙ sym hw.keys)
 
 -- the messages, with the controllers that the voice leaves
@@ -114,7 +123,8 @@ bring_is c now wanted h =
     ++ where_differs now.own.bend wanted.own.bend (Bend c wanted.own.bend))
     ++ bring_keys c 0 now.keys wanted.keys) (first_reach c now wanted h)
 
-pub bring_reach : Laws → (c : ℕ) (now wanted : State) → IsWellFormed now → IsWellFormed wanted → apply_all now (bring c now wanted) ≡ last_state now wanted
+pub bring_reach : Laws → (c : ℕ) (now wanted : State) → IsWellFormed now → IsWellFormed wanted
+    → apply_all now (bring c now wanted) ≡ last_state now wanted
 bring_reach l c now wanted hn hw =
     let v : List Msg = bring_voice c now.own wanted.own.voice in
     let k : List Msg = bring_controls c 0 (first_state now wanted).own.controls wanted.own.controls in
@@ -128,17 +138,20 @@ bring_reach l c now wanted hn hw =
     ap (λ ms. apply_all now ms) (bring_is c now wanted hn)
     ∙ next now (fifth_state now wanted) ((((v ++ k) ++ p) ++ w) ++ b) (bring_keys c 0 now.keys wanted.keys) four ∙ last_reach c now wanted hn hw
 
-pub reaches : Laws → (c : ℕ) (now wanted : State) → IsWellFormed now → IsWellFormed wanted → unselected (apply_all now (bring c now wanted)) ≡ unselected wanted
+pub reaches : Laws → (c : ℕ) (now wanted : State) → IsWellFormed now → IsWellFormed wanted
+    → unselected (apply_all now (bring c now wanted)) ≡ unselected wanted
 reaches l c now wanted hn hw = ap unselected (bring_reach l c now wanted hn hw)
 
-pub kept_selection : Laws → (c : ℕ) (now wanted : State) → IsWellFormed now → IsWellFormed wanted → changed now wanted ≡ [] → (apply_all now (bring c now wanted)).own.selection ≡ now.own.selection
+pub kept_selection : Laws → (c : ℕ) (now wanted : State) → IsWellFormed now → IsWellFormed wanted → changed now wanted ≡ []
+    → (apply_all now (bring c now wanted)).own.selection ≡ now.own.selection
 kept_selection l c now wanted hn hw e = ap (λ t. t.own.selection) (bring_reach l c now wanted hn hw) ∙ ap (λ es. selection_after now.own.selection es) e
 
 closed_after : (sel : Selection) (es : List Entry) → es ≢ [] → IsClosed (selection_after sel es)
 closed_after sel [] h = absurd (h refl)
 closed_after sel (e ∷ es) h = record { registered = refl; rpn = refl }
 
-pub closed_selection : Laws → (c : ℕ) (now wanted : State) → IsWellFormed now → IsWellFormed wanted → changed now wanted ≢ [] → IsClosed (apply_all now (bring c now wanted)).own.selection
+pub closed_selection : Laws → (c : ℕ) (now wanted : State) → IsWellFormed now → IsWellFormed wanted → changed now wanted ≢ []
+    → IsClosed (apply_all now (bring c now wanted)).own.selection
 closed_selection l c now wanted hn hw h = subst (λ (t : State). IsClosed t.own.selection) (sym (bring_reach l c now wanted hn hw)) (closed_after now.own.selection (changed now wanted) h)
 
 free_by : (c : ℕ) (now : State) (v : Voice) (b h l : Bool)
@@ -160,5 +173,6 @@ ignored c now wanted =
     ++ where_differs now.own.bend wanted.own.bend (Bend c wanted.own.bend))
     ++ bring_keys c 0 now.keys wanted.keys) (free_by c now v (voice_eq now.own.voice v) (nat_eq (get_or now.own.controls 0 0) v.high) (nat_eq (get_or now.own.controls 32 0) v.low))
 
-pub ignored_both : (c : ℕ) (a b now wanted : State) → unselected a ≡ unselected now → unselected b ≡ unselected wanted → bring c a b ≡ bring c now wanted
+pub ignored_both : (c : ℕ) (a b now wanted : State) → unselected a ≡ unselected now → unselected b ≡ unselected wanted
+    → bring c a b ≡ bring c now wanted
 ignored_both c a b now wanted h k = sym (ignored c a b) ∙ ap (λ x. bring c x b) h ∙ ignored c now b ∙ ap (λ x. bring c now x) k

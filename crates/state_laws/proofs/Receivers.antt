@@ -22,7 +22,8 @@ use Rattle.state_laws.proofs.Keeping.{Keys, keys_zero, made, controls_of, select
 abbrev Well : Channel → Type 0
 Well s = IsWellFormed (unpressed s)
 
-rekeyed : (s : State) (ks : List ℕ) → IsWellFormed s → Keys ks → (let t : State = record { own = s.own; keys = ks } in IsWellFormed t)
+rekeyed : (s : State) (ks : List ℕ) → IsWellFormed s → Keys ks
+    → (let t : State = record { own = s.own; keys = ks } in IsWellFormed t)
 rekeyed s ks h k = made (record { own = s.own; keys = ks }) (controls_of s h) (selected_of s h) (h.canonical, h.entered) (rest_of s h) k
 
 well_applied : Laws → (s : Channel) (m : Msg) → Well s → IsValidMsg m → Well (apply s m)
@@ -156,7 +157,8 @@ sound_tunes : (m : Music) (t : ℕ) (r : Option Retune) → AreWellFormed m → 
 sound_tunes m t (Some r) h = h
 sound_tunes m t None h = h
 
-sound_sysex : (m : Music) (t : ℕ) (a b : Bool) (r : Option Retune) → AreWellFormed m → AreWellFormed (advance t (cond a (cond b Resets (tunes r)) Nothing) m)
+sound_sysex : (m : Music) (t : ℕ) (a b : Bool) (r : Option Retune) → AreWellFormed m
+    → AreWellFormed (advance t (cond a (cond b Resets (tunes r)) Nothing) m)
 sound_sysex m t true true r h = sound_reset m t h
 sound_sysex m t true false r h = sound_tunes m t r h
 sound_sysex m t false b r h = h
@@ -166,7 +168,8 @@ sound_what l m t (Says msg) ok h = sound_play l m t msg ok h
 sound_what l m t (SysexOf lead bs) ok h = sound_sysex m t (nat_eq lead 240) (is_reset bs) (tuning_of bs) h
 sound_what l m t (MetaOf kind bs) ok h = h
 
-sound_all : Laws → (m : Music) (es : List MidiEvent) → AllByRecursion IsValidEvent es → AreWellFormed m → AreWellFormed (play m es)
+sound_all : Laws → (m : Music) (es : List MidiEvent) → AllByRecursion IsValidEvent es → AreWellFormed m
+    → AreWellFormed (play m es)
 sound_all l m [] ok h = h
 sound_all l m (e ∷ es) ok h = sound_all l (step m e) es ok.1 (sound_what l m e.tick e.what ok.0.what h)
 

@@ -46,7 +46,8 @@ count_more e es = pick (counts e)
 abbrev pub Within : List Entry → List Entry → Type 0
 Within a b = (q : Parameter) → value_of b q ≡ default_value q → value_of a q ≡ default_value q
 
-first_in : (e : Entry) (es b : List Entry) → IsCanonical (e ∷ es) → Within (e ∷ es) b → value_of b e.parameter ≡ default_value e.parameter → ⊥
+first_in : (e : Entry) (es b : List Entry) → IsCanonical (e ∷ es) → Within (e ∷ es) b
+    → value_of b e.parameter ≡ default_value e.parameter → ⊥
 first_in e es b h w x = not_default e es h (sym (found e es e.parameter refl) ∙ w e.parameter x)
 
 within_rest : (a : List Entry) (f : Entry) (fs : List Entry) → Within a (f ∷ fs) → IsAbove (rank f.parameter) a → Within a fs
@@ -62,7 +63,8 @@ above_from n e es l h = (l, above_less es (rank e.parameter) n (omega (arith, l)
     above_less [] n k h a = tt
     above_less (e ∷ es) n k h a = (omega (arith, h, a.0), above_less es n k h a.1)
 
-within_both : (e f : Entry) (es fs : List Entry) → rank e.parameter ≡ rank f.parameter → IsCanonical (e ∷ es) → Within (e ∷ es) (f ∷ fs) → Within es fs
+within_both : (e f : Entry) (es fs : List Entry) → rank e.parameter ≡ rank f.parameter → IsCanonical (e ∷ es)
+    → Within (e ∷ es) (f ∷ fs) → Within es fs
 within_both e f es fs r h w q x = elim (cases_eq (rank e.parameter) (rank q)) [
   | inl y ↦ absent es q (rank e.parameter) h.1 (omega (arith, y))
   | inr y ↦ sym (skip e es q y) ∙ w q (skip f fs q (λ z. y (r ∙ z)) ∙ x)
@@ -94,7 +96,8 @@ record Phase (b ps : List Entry) : Type 0 where
   canonical : IsCanonical ps
   within : Within ps b
 
-phase_put : Laws → (b ps : List Entry) (p : Parameter) (v : ℕ × ℕ) → value_of b p ≢ default_value p → Phase b ps → Phase b (put p v ps)
+phase_put : Laws → (b ps : List Entry) (p : Parameter) (v : ℕ × ℕ) → value_of b p ≢ default_value p → Phase b ps
+    → Phase b (put p v ps)
 phase_put l b ps p v d h = record {
   canonical = l.form p v ps h.canonical;
   within = λ q x. elim (cases_eq (rank q) (rank p)) [
@@ -106,13 +109,16 @@ phase_put l b ps p v d h = record {
 phase_count : (b ps : List Entry) → IsCanonical b → Phase b ps → count ps ≤ count b
 phase_count b ps hb h = within_count ps b h.canonical hb h.within
 
-phase_high : Laws → (b ps : List Entry) (e : Entry) (v : ℕ × ℕ) → value_of b e.parameter ≢ default_value e.parameter → Phase b ps → Phase b (high_set v e ps)
+phase_high : Laws → (b ps : List Entry) (e : Entry) (v : ℕ × ℕ) → value_of b e.parameter ≢ default_value e.parameter
+    → Phase b ps → Phase b (high_set v e ps)
 phase_high l b ps e v d h = cond_both (nat_eq v.0 e.value.0) ps (put e.parameter (e.value.0, (value_of ps e.parameter).1) ps) (Phase b) (λ _. h) (λ _. phase_put l b ps e.parameter (e.value.0, (value_of ps e.parameter).1) d h)
 
-phase_low : Laws → (b ps : List Entry) (e : Entry) (v : ℕ × ℕ) → value_of b e.parameter ≢ default_value e.parameter → Phase b ps → Phase b (low_set v e ps)
+phase_low : Laws → (b ps : List Entry) (e : Entry) (v : ℕ × ℕ) → value_of b e.parameter ≢ default_value e.parameter
+    → Phase b ps → Phase b (low_set v e ps)
 phase_low l b ps e v d h = cond_both (nat_eq v.1 e.value.1) ps (put e.parameter ((value_of ps e.parameter).0, e.value.1) ps) (Phase b) (λ _. h) (λ _. phase_put l b ps e.parameter ((value_of ps e.parameter).0, e.value.1) d h)
 
-phase_entered : Laws → (b ps : List Entry) (e : Entry) (v : ℕ × ℕ) → value_of b e.parameter ≢ default_value e.parameter → Phase b ps → Phase b (entered v e ps)
+phase_entered : Laws → (b ps : List Entry) (e : Entry) (v : ℕ × ℕ) → value_of b e.parameter ≢ default_value e.parameter
+    → Phase b ps → Phase b (entered v e ps)
 phase_entered l b ps e v d h = phase_low l b (high_set v e ps) e v d (phase_high l b ps e v d h)
 
 -- the parameters to be set are away from their defaults in B
@@ -138,7 +144,8 @@ sticks_default b (e ∷ es) h = (h.0, sticks_default b es h.1)
 
 -- ---- messages one by one
 
-pub along_append : (P : State → Msg → Type 0) (s t : State) (a b : List Msg) → apply_all s a ≡ t → Along P s a → Along P t b → Along P s (a ++ b)
+pub along_append : (P : State → Msg → Type 0) (s t : State) (a b : List Msg) → apply_all s a ≡ t → Along P s a → Along P t b
+    → Along P s (a ++ b)
 along_append P s t [] b e h k = subst (λ (x : State). Along P x b) (sym e) k
 along_append P s t (m ∷ a) b e h k = (h.0, along_append P (apply_state s m) t a b e h.1 k)
 
@@ -150,7 +157,8 @@ pub record Careful (c n : ℕ) (s : State) (m : Msg) : Type 0 where
   pub room : counted (apply_state s m).own ≤ n
 
 -- the voice
-along_voice : (c n : ℕ) (s : State) (v : Voice) (a h l : Bool) → c ≤ 15 → v.high ≤ 127 → v.low ≤ 127 → v.program ≤ 127 → counted s.own ≤ n
+along_voice : (c n : ℕ) (s : State) (v : Voice) (a h l : Bool) → c ≤ 15 → v.high ≤ 127 → v.low ≤ 127 → v.program ≤ 127
+    → counted s.own ≤ n
     → Along (Careful c n) s (cond a [] ((cond h [] (Control c 0 v.high ∷ []) ++ cond l [] (Control c 32 v.low ∷ [])) ++ Program c v.program ∷ []))
 along_voice c n s v true h l ok vh vl vp r = tt
 along_voice c n s v false true true ok vh vl vp r = (record { channel = refl; sets = refl; valid = (ok, vp); room = r }, tt)
@@ -165,7 +173,8 @@ mild_stored sel n e = ap (only_sets_by sel) (stored_role (role n) e)
 room_stored : (s : Channel) (n v m : ℕ) → is_stored n ≡ true → counted s ≤ m → counted (controlled s n v (role n)) ≤ m
 room_stored s n v m e h = subst (λ (r : Role). counted (controlled s n v r) ≤ m) (sym (stored_role (role n) e)) h
 
-along_controls : (c n m : ℕ) (s : State) (xs ys : List ℕ) → c ≤ 15 → counted s.own ≤ m → m + 0 ≡ m → n + length ys ≤ 128 → ((i : ℕ) → get_or ys i 0 ≤ 127)
+along_controls : (c n m : ℕ) (s : State) (xs ys : List ℕ) → c ≤ 15 → counted s.own ≤ m → m + 0 ≡ m → n + length ys ≤ 128
+    → ((i : ℕ) → get_or ys i 0 ≤ 127)
     → ((i : ℕ) → is_stored (n + i) ≡ false → get_or xs i 0 ≡ get_or ys i 0) → Along (Careful c m) s (bring_controls c n xs ys)
 along_controls c n m s [] ys ok r z low b u = tt
 along_controls c n m s (x ∷ xs) [] ok r z low b u = tt
@@ -179,7 +188,8 @@ along_controls c n m s (x ∷ xs) (y ∷ ys) ok r z low b u =
     same : (y : ℕ) → nat_eq y y ≡ true
     same y = grind arith
 
-    pick : (d : Bool) → nat_eq x y ≡ d → n ≤ 127 → n + 0 ≡ n → ((t : State) → counted t.own ≤ m → Along (Careful c m) t (bring_controls c (n + 1) xs ys))
+    pick : (d : Bool) → nat_eq x y ≡ d → n ≤ 127 → n + 0 ≡ n
+        → ((t : State) → counted t.own ≤ m → Along (Careful c m) t (bring_controls c (n + 1) xs ys))
         → Along (Careful c m) s (cond d [] (Control c n y ∷ []) ++ bring_controls c (n + 1) xs ys)
     pick true t l first rest = rest s r
     pick false t l first rest =
@@ -188,33 +198,40 @@ along_controls c n m s (x ∷ xs) (y ∷ ys) ok r z low b u =
         (record { channel = refl; sets = mild_stored s.own.selection n stored; valid = (ok, l, b 0); room = k }, rest (apply_state s (Control c n y)) k)
 
 -- one parameter
-along_choose_by : (c n : ℕ) (s : State) (sel : Selection) (ps : List Entry) (b : Bool) (h l : ℕ) → c ≤ 15 → h < 128 → l < 128 → count ps ≤ n
+along_choose_by : (c n : ℕ) (s : State) (sel : Selection) (ps : List Entry) (b : Bool) (h l : ℕ) → c ≤ 15 → h < 128 → l < 128
+    → count ps ≤ n
     → (let p : Parameter = record { registered = b; high = h; low = l } in Along (Careful c n) (at_params s sel ps) (choose_parameter c p))
 along_choose_by c n s sel ps true h l ok a b r = (record { channel = refl; sets = refl; valid = (ok, omega arith, omega (arith, a)); room = r }, (record { channel = refl; sets = refl; valid = (ok, omega arith, omega (arith, b)); room = r }, tt))
 along_choose_by c n s sel ps false h l ok a b r = (record { channel = refl; sets = refl; valid = (ok, omega arith, omega (arith, a)); room = r }, (record { channel = refl; sets = refl; valid = (ok, omega arith, omega (arith, b)); room = r }, tt))
 
-room_high : (n v : ℕ) (t : Target) (p : Parameter) (ps : List Entry) → t ≡ Value p → count (put p (v, (value_of ps p).1) ps) ≤ n → count (with_high v t ps) ≤ n
+room_high : (n v : ℕ) (t : Target) (p : Parameter) (ps : List Entry) → t ≡ Value p
+    → count (put p (v, (value_of ps p).1) ps) ≤ n → count (with_high v t ps) ≤ n
 room_high n v t p ps e h = subst (λ (x : Target). count (with_high v x ps) ≤ n) (sym e) h
 
-room_low : (n v : ℕ) (t : Target) (p : Parameter) (ps : List Entry) → t ≡ Value p → count (put p ((value_of ps p).0, v) ps) ≤ n → count (with_low v t ps) ≤ n
+room_low : (n v : ℕ) (t : Target) (p : Parameter) (ps : List Entry) → t ≡ Value p
+    → count (put p ((value_of ps p).0, v) ps) ≤ n → count (with_low v t ps) ≤ n
 room_low n v t p ps e h = subst (λ (x : Target). count (with_low v x ps) ≤ n) (sym e) h
 
-along_high : Laws → (c n : ℕ) (s : State) (sel : Selection) (b ps : List Entry) (e : Entry) → c ≤ 15 → IsCanonical b → count b ≤ n → target sel ≡ Value e.parameter → IsEntered e
+along_high : Laws → (c n : ℕ) (s : State) (sel : Selection) (b ps : List Entry) (e : Entry) → c ≤ 15 → IsCanonical b
+    → count b ≤ n → target sel ≡ Value e.parameter → IsEntered e
     → value_of b e.parameter ≢ default_value e.parameter → Phase b ps → Careful c n (at_params s sel ps) (Control c 6 e.value.0)
 along_high l c n s sel b ps e ok hb low t h d f =
     let v : ℕ × ℕ = (e.value.0, (value_of ps e.parameter).1) in
     let k = phase_count b (put e.parameter v ps) hb (phase_put l b ps e.parameter v d f) in
     record { channel = refl; sets = ap is_value t; valid = (ok, omega arith, h.high); room = room_high n e.value.0 (target sel) e.parameter ps t (omega (arith, k, low)) }
 
-along_low : Laws → (c n : ℕ) (s : State) (sel : Selection) (b ps : List Entry) (e : Entry) → c ≤ 15 → IsCanonical b → count b ≤ n → target sel ≡ Value e.parameter → IsEntered e
+along_low : Laws → (c n : ℕ) (s : State) (sel : Selection) (b ps : List Entry) (e : Entry) → c ≤ 15 → IsCanonical b
+    → count b ≤ n → target sel ≡ Value e.parameter → IsEntered e
     → value_of b e.parameter ≢ default_value e.parameter → Phase b ps → Careful c n (at_params s sel ps) (Control c 38 e.value.1)
 along_low l c n s sel b ps e ok hb low t h d f =
     let v : ℕ × ℕ = ((value_of ps e.parameter).0, e.value.1) in
     let k = phase_count b (put e.parameter v ps) hb (phase_put l b ps e.parameter v d f) in
     record { channel = refl; sets = ap is_value t; valid = (ok, omega arith, h.low); room = room_low n e.value.1 (target sel) e.parameter ps t (omega (arith, k, low)) }
 
-along_values : Laws → (c n : ℕ) (s : State) (sel : Selection) (b ps : List Entry) (e : Entry) (x y : Bool) → c ≤ 15 → IsCanonical b → count b ≤ n → target sel ≡ Value e.parameter → IsEntered e
-    → value_of b e.parameter ≢ default_value e.parameter → Phase b ps → Along (Careful c n) (at_params s sel ps) (cond x [] (Control c 6 e.value.0 ∷ []) ++ cond y [] (Control c 38 e.value.1 ∷ []))
+along_values : Laws → (c n : ℕ) (s : State) (sel : Selection) (b ps : List Entry) (e : Entry) (x y : Bool) → c ≤ 15
+    → IsCanonical b → count b ≤ n → target sel ≡ Value e.parameter → IsEntered e
+    → value_of b e.parameter ≢ default_value e.parameter → Phase b ps
+    → Along (Careful c n) (at_params s sel ps) (cond x [] (Control c 6 e.value.0 ∷ []) ++ cond y [] (Control c 38 e.value.1 ∷ []))
 along_values l c n s sel b ps e true true ok hb low t h d f = tt
 along_values l c n s sel b ps e false true ok hb low t h d f = (along_high l c n s sel b ps e ok hb low t h d f, tt)
 along_values l c n s sel b ps e true false ok hb low t h d f = (along_low l c n s sel b ps e ok hb low t h d f, tt)
@@ -225,8 +242,10 @@ along_values l c n s sel b ps e false false ok hb low t h d f =
       (subst (λ (z : State). Careful c n z (Control c 38 e.value.1)) (sym (high_step s sel ps c e.value.0 e.parameter t)) (along_low l c n s sel b one e ok hb low t h d k), tt),
     )
 
-along_parameter : Laws → (c n : ℕ) (s : State) (sel : Selection) (b ps : List Entry) (e : Entry) (v : ℕ × ℕ) → c ≤ 15 → IsCanonical b → count b ≤ n → IsEntered e
-    → value_of b e.parameter ≢ default_value e.parameter → Phase b ps → Along (Careful c n) (at_params s sel ps) (bring_parameter c v e)
+along_parameter : Laws → (c n : ℕ) (s : State) (sel : Selection) (b ps : List Entry) (e : Entry) (v : ℕ × ℕ) → c ≤ 15
+    → IsCanonical b → count b ≤ n → IsEntered e
+    → value_of b e.parameter ≢ default_value e.parameter → Phase b ps
+    → Along (Careful c n) (at_params s sel ps) (bring_parameter c v e)
 along_parameter l c n s sel b ps e v ok hb low h d f =
     let k = phase_count b ps hb f in
     along_append (Careful c n) (at_params s sel ps) (at_params s (choose sel e.parameter) ps) (choose_parameter c e.parameter) (where_differs v.0 e.value.0 (Control c 6 e.value.0) ++ where_differs v.1 e.value.1 (Control c 38 e.value.1))
@@ -234,7 +253,8 @@ along_parameter l c n s sel b ps e v ok hb low h d f =
     (along_choose_by c n s sel ps e.parameter.registered e.parameter.high e.parameter.low ok h.small.high h.small.low (omega (arith, k, low)))
     (along_values l c n s (choose sel e.parameter) b ps e (nat_eq v.0 e.value.0) (nat_eq v.1 e.value.1) ok hb low (choose_target sel e.parameter h.settable) h d f)
 
-along_each : Laws → (c n : ℕ) (s : State) (sel : Selection) (b now ps es : List Entry) → c ≤ 15 → IsCanonical b → count b ≤ n → AreEntered es → Sticks b es → Phase b ps → Along (Careful c n) (at_params s sel ps) (bring_each c now es)
+along_each : Laws → (c n : ℕ) (s : State) (sel : Selection) (b now ps es : List Entry) → c ≤ 15 → IsCanonical b → count b ≤ n
+    → AreEntered es → Sticks b es → Phase b ps → Along (Careful c n) (at_params s sel ps) (bring_each c now es)
 along_each l c n s sel b now ps [] ok hb low h d f = tt
 along_each l c n s sel b now ps (e ∷ es) ok hb low h d f =
     let v : ℕ × ℕ = value_of now e.parameter in
@@ -248,7 +268,8 @@ each_append : (c : ℕ) (now a b : List Entry) → bring_each c now (a ++ b) ≡
 each_append c now [] b = refl
 each_append c now (e ∷ a) b = ap (λ r. bring_parameter c (value_of now e.parameter) e ++ r) (each_append c now a b) ∙ sym (append_assoc (bring_parameter c (value_of now e.parameter) e) (bring_each c now a) (bring_each c now b))
 
-along_changes : Laws → (c n : ℕ) (s : State) (sel : Selection) (now wanted : List Entry) → c ≤ 15 → Good now → Good wanted → count now ≤ n → count wanted ≤ n
+along_changes : Laws → (c n : ℕ) (s : State) (sel : Selection) (now wanted : List Entry) → c ≤ 15 → Good now → Good wanted
+    → count now ≤ n → count wanted ≤ n
     → Along (Careful c n) (at_params s sel now) (bring_each c now (to_default now wanted ++ to_other now wanted))
 along_changes l c n s sel now wanted ok gn gw ln lw =
     let a : List Entry = to_default now wanted in
@@ -264,11 +285,14 @@ along_changes l c n s sel now wanted ok gn gw ln lw =
     (along_each l c n s sel now now now a ok gn.0 ln ea (sticks_default now (filter (wants_default wanted) now) (sticks_filter now (wants_default wanted) now (sticks_all now gn.0))) start)
     (along_each l c n s (chosen_all sel a) wanted now mid b ok gw.0 lw (entered_to_other now wanted gw.1) (sticks_filter wanted (wants_other now) wanted (sticks_all wanted gw.0)) then))
 
-along_closing : (c n : ℕ) (s : State) (sel : Selection) (ps : List Entry) → c ≤ 15 → count ps ≤ n → Along (Careful c n) (at_params s sel ps) (closing c)
+along_closing : (c n : ℕ) (s : State) (sel : Selection) (ps : List Entry) → c ≤ 15 → count ps ≤ n
+    → Along (Careful c n) (at_params s sel ps) (closing c)
 along_closing c n s sel ps ok r = (record { channel = refl; sets = refl; valid = (ok, omega arith, omega arith); room = r }, (record { channel = refl; sets = refl; valid = (ok, omega arith, omega arith); room = r }, tt))
 
-along_closed : (c n : ℕ) (s : State) (sel : Selection) (now es wanted : List Entry) → c ≤ 15 → AreEntered es → entered_all now es now ≡ wanted → count wanted ≤ n
-    → Along (Careful c n) (at_params s sel now) (bring_each c now es) → Along (Careful c n) (at_params s sel now) (closed c (bring_each c now es))
+along_closed : (c n : ℕ) (s : State) (sel : Selection) (now es wanted : List Entry) → c ≤ 15 → AreEntered es
+    → entered_all now es now ≡ wanted → count wanted ≤ n
+    → Along (Careful c n) (at_params s sel now) (bring_each c now es)
+    → Along (Careful c n) (at_params s sel now) (closed c (bring_each c now es))
 along_closed c n s sel now [] wanted ok h e r a = tt
 along_closed c n s sel now (x ∷ es) wanted ok h e r a =
     subst (λ (ms : List Msg). Along (Careful c n) (at_params s sel now) ms) (sym (closed_each c now x es))
@@ -277,15 +301,18 @@ along_closed c n s sel now (x ∷ es) wanted ok h e r a =
     (along_closing c n s (chosen_all sel (x ∷ es)) (entered_all now (x ∷ es) now) ok (subst (λ (ps : List Entry). count ps ≤ n) (sym e) r)))
 
 -- the pressures and the bend
-along_pressure : (c n : ℕ) (s : State) (v : ℕ) (d : Bool) → c ≤ 15 → v ≤ 127 → counted s.own ≤ n → Along (Careful c n) s (cond d [] (Pressure c v ∷ []))
+along_pressure : (c n : ℕ) (s : State) (v : ℕ) (d : Bool) → c ≤ 15 → v ≤ 127 → counted s.own ≤ n
+    → Along (Careful c n) s (cond d [] (Pressure c v ∷ []))
 along_pressure c n s v true ok h r = tt
 along_pressure c n s v false ok h r = (record { channel = refl; sets = refl; valid = (ok, h); room = r }, tt)
 
-along_bend : (c n : ℕ) (s : State) (v : ℕ) (d : Bool) → c ≤ 15 → v ≤ 16383 → counted s.own ≤ n → Along (Careful c n) s (cond d [] (Bend c v ∷ []))
+along_bend : (c n : ℕ) (s : State) (v : ℕ) (d : Bool) → c ≤ 15 → v ≤ 16383 → counted s.own ≤ n
+    → Along (Careful c n) s (cond d [] (Bend c v ∷ []))
 along_bend c n s v true ok h r = tt
 along_bend c n s v false ok h r = (record { channel = refl; sets = refl; valid = (ok, h); room = r }, tt)
 
-along_keys : (c k n : ℕ) (s : State) (xs ys : List ℕ) → c ≤ 15 → counted s.own ≤ n → k + length ys ≤ 128 → ((i : ℕ) → get_or ys i 0 ≤ 127) → Along (Careful c n) s (bring_keys c k xs ys)
+along_keys : (c k n : ℕ) (s : State) (xs ys : List ℕ) → c ≤ 15 → counted s.own ≤ n → k + length ys ≤ 128
+    → ((i : ℕ) → get_or ys i 0 ≤ 127) → Along (Careful c n) s (bring_keys c k xs ys)
 along_keys c k n s [] ys ok r low b = tt
 along_keys c k n s (x ∷ xs) [] ok r low b = tt
 along_keys c k n s (x ∷ xs) (y ∷ ys) ok r low b =
@@ -298,7 +325,8 @@ along_keys c k n s (x ∷ xs) (y ∷ ys) ok r low b =
 
 -- ---- the whole
 
-pub along_bring : Laws → (c n : ℕ) (now wanted : State) → c ≤ 15 → IsWellFormed now → IsWellFormed wanted → counted now.own ≤ n → counted wanted.own ≤ n → Along (Careful c n) now (bring c now wanted)
+pub along_bring : Laws → (c n : ℕ) (now wanted : State) → c ≤ 15 → IsWellFormed now → IsWellFormed wanted
+    → counted now.own ≤ n → counted wanted.own ≤ n → Along (Careful c n) now (bring c now wanted)
 along_bring l c n now wanted ok hn hw ln lw =
     let P : State → Msg → Type 0 = Careful c n in
     let gn : Good now.own.params = (hn.canonical, hn.entered) in
@@ -330,7 +358,8 @@ along_bring l c n now wanted ok hn hw ln lw =
     (along_append P now (first_state now wanted) v k (first_reach c now wanted hn) av ak) ap) aw) ab) at)
 
 -- what each message is; what holds of the states on the way
-pub along_weaker : (P Q : State → Msg → Type 0) → ((s : State) (m : Msg) → P s m → Q s m) → (s : State) (ms : List Msg) → Along P s ms → Along Q s ms
+pub along_weaker : (P Q : State → Msg → Type 0) → ((s : State) (m : Msg) → P s m → Q s m) → (s : State) (ms : List Msg)
+    → Along P s ms → Along Q s ms
 along_weaker P Q f s [] h = tt
 along_weaker P Q f s (m ∷ ms) h = (f s m h.0, along_weaker P Q f (apply_state s m) ms h.1)
 
@@ -338,22 +367,26 @@ pub along_valid : (c n : ℕ) (s : State) (ms : List Msg) → Along (Careful c n
 along_valid c n s [] h = tt
 along_valid c n s (m ∷ ms) h = (h.0.valid, along_valid c n (apply_state s m) ms h.1)
 
-pub along_room : (c n k : ℕ) (s : State) (ms : List Msg) → counted s.own ≤ n → Along (Careful c n) s ms → counted (apply_all s (take k ms)).own ≤ n
+pub along_room : (c n k : ℕ) (s : State) (ms : List Msg) → counted s.own ≤ n → Along (Careful c n) s ms
+    → counted (apply_all s (take k ms)).own ≤ n
 along_room c n zero s ms r h = r
 along_room c n (suc k) s [] r h = r
 along_room c n (suc k) s (m ∷ ms) r h = along_room c n k (apply_state s m) ms h.0.room h.1
 
-pub only_settings : Laws → (c : ℕ) (now wanted : State) → c ≤ 15 → IsWellFormed now → IsWellFormed wanted → Along (OnlySets c) now (bring c now wanted)
+pub only_settings : Laws → (c : ℕ) (now wanted : State) → c ≤ 15 → IsWellFormed now → IsWellFormed wanted
+    → Along (OnlySets c) now (bring c now wanted)
 only_settings l c now wanted ok hn hw =
     let n : ℕ = counted now.own + counted wanted.own in
     along_weaker (Careful c n) (OnlySets c) (λ s m h. record { channel = h.channel; sets = h.sets }) now (bring c now wanted) (along_bring l c n now wanted ok hn hw (omega arith) (omega arith))
 
-pub valid_ones : Laws → (c : ℕ) (now wanted : State) → c ≤ 15 → IsWellFormed now → IsWellFormed wanted → AllByRecursion IsValidMsg (bring c now wanted)
+pub valid_ones : Laws → (c : ℕ) (now wanted : State) → c ≤ 15 → IsWellFormed now → IsWellFormed wanted
+    → AllByRecursion IsValidMsg (bring c now wanted)
 valid_ones l c now wanted ok hn hw =
     let n : ℕ = counted now.own + counted wanted.own in
     along_valid c n now (bring c now wanted) (along_bring l c n now wanted ok hn hw (omega arith) (omega arith))
 
-pub has_room : Laws → (c k : ℕ) (now wanted : State) → c ≤ 15 → IsWellFormed now → IsWellFormed wanted → counted (apply_all now (take k (bring c now wanted))).own ≤ max (counted now.own) (counted wanted.own)
+pub has_room : Laws → (c k : ℕ) (now wanted : State) → c ≤ 15 → IsWellFormed now → IsWellFormed wanted
+    → counted (apply_all now (take k (bring c now wanted))).own ≤ max (counted now.own) (counted wanted.own)
 has_room l c k now wanted ok hn hw =
     let n : ℕ = max (counted now.own) (counted wanted.own) in
     along_room c n k now (bring c now wanted) (omega arith) (along_bring l c n now wanted ok hn hw (omega arith) (omega arith))

@@ -15,7 +15,8 @@ pub record Sets (before after : List Entry) (p : Parameter) (v : ℕ × ℕ) : T
   pub here : value_of after p ≡ v
   pub others : (q : Parameter) → rank q ≢ rank p → value_of after q ≡ value_of before q
 
-pub sets_put : Laws → (ps : List Entry) (e : Entry) → Good ps → IsEntered e → Sets ps (put e.parameter e.value ps) e.parameter e.value
+pub sets_put : Laws → (ps : List Entry) (e : Entry) → Good ps → IsEntered e
+    → Sets ps (put e.parameter e.value ps) e.parameter e.value
 sets_put l ps e g h = record {
   good = (l.form e.parameter e.value ps g.0, entered_put e.parameter e.value ps h g.1);
   here = l.given e.parameter e.value ps g.0;
@@ -32,18 +33,21 @@ sets_then a b c p v w h k = record { good = k.good; here = k.here; others = λ q
 abbrev pub made : Entry → ℕ × ℕ → Entry
 made e v = record { parameter = e.parameter; value = v }
 
-pub sets_high : Laws → (ps : List Entry) (e : Entry) (v : ℕ × ℕ) → Good ps → IsEntered e → v.1 ≤ 127 → value_of ps e.parameter ≡ v → Sets ps (high_set v e ps) e.parameter (e.value.0, v.1)
+pub sets_high : Laws → (ps : List Entry) (e : Entry) (v : ℕ × ℕ) → Good ps → IsEntered e → v.1 ≤ 127
+    → value_of ps e.parameter ≡ v → Sets ps (high_set v e ps) e.parameter (e.value.0, v.1)
 sets_high l ps e v g h k x = cond_both (nat_eq v.0 e.value.0) ps (put e.parameter (e.value.0, (value_of ps e.parameter).1) ps) (λ (r : List Entry). Sets ps r e.parameter (e.value.0, v.1))
     (λ t. sets_same ps e.parameter (e.value.0, v.1) g (x ∙ ap (λ y. (y, v.1)) (eqb-true v.0 e.value.0 t)))
     (λ t. subst (λ (y : ℕ). Sets ps (put e.parameter (e.value.0, y) ps) e.parameter (e.value.0, v.1)) (ap (λ z. z.1) (sym x))
     (sets_put l ps (made e (e.value.0, v.1)) g (record { small = h.small; settable = h.settable; high = h.high; low = k })))
 
-pub sets_low : Laws → (ps : List Entry) (e : Entry) (v : ℕ × ℕ) → Good ps → IsEntered e → value_of ps e.parameter ≡ (e.value.0, v.1) → Sets ps (low_set v e ps) e.parameter e.value
+pub sets_low : Laws → (ps : List Entry) (e : Entry) (v : ℕ × ℕ) → Good ps → IsEntered e
+    → value_of ps e.parameter ≡ (e.value.0, v.1) → Sets ps (low_set v e ps) e.parameter e.value
 sets_low l ps e v g h x = cond_both (nat_eq v.1 e.value.1) ps (put e.parameter ((value_of ps e.parameter).0, e.value.1) ps) (λ (r : List Entry). Sets ps r e.parameter e.value)
     (λ t. sets_same ps e.parameter e.value g (x ∙ ap (λ y. (e.value.0, y)) (eqb-true v.1 e.value.1 t)))
     (λ t. subst (λ (y : ℕ). Sets ps (put e.parameter (y, e.value.1) ps) e.parameter e.value) (ap (λ z. z.0) (sym x)) (sets_put l ps e g h))
 
-pub sets_entered : Laws → (ps : List Entry) (e : Entry) (v : ℕ × ℕ) → Good ps → IsEntered e → v.1 ≤ 127 → value_of ps e.parameter ≡ v → Sets ps (entered v e ps) e.parameter e.value
+pub sets_entered : Laws → (ps : List Entry) (e : Entry) (v : ℕ × ℕ) → Good ps → IsEntered e → v.1 ≤ 127
+    → value_of ps e.parameter ≡ v → Sets ps (entered v e ps) e.parameter e.value
 sets_entered l ps e v g h k x =
     let one = sets_high l ps e v g h k x in
     sets_then ps (high_set v e ps) (entered v e ps) e.parameter (e.value.0, v.1) e.value one (sets_low l (high_set v e ps) e v one.good h one.here)
@@ -59,7 +63,8 @@ pub fresh_same : (now es : List Entry) → Fresh now now es
 fresh_same now [] = tt
 fresh_same now (e ∷ es) = (refl, fresh_same now es)
 
-pub fresh_after : (now ps qs es : List Entry) (p : Parameter) (v : ℕ × ℕ) → Sets ps qs p v → Misses (rank p) es → Fresh now ps es → Fresh now qs es
+pub fresh_after : (now ps qs es : List Entry) (p : Parameter) (v : ℕ × ℕ) → Sets ps qs p v → Misses (rank p) es
+    → Fresh now ps es → Fresh now qs es
 fresh_after now ps qs [] p v s m f = tt
 fresh_after now ps qs (e ∷ es) p v s m f = (s.others e.parameter m.0 ∙ f.0, fresh_after now ps qs es p v s m.1 f.1)
 
@@ -67,7 +72,8 @@ pub record AllSet (before after es : List Entry) : Type 0 where
   pub good : Good after
   pub values : (q : Parameter) → value_of after q ≡ value_or es (value_of before q) q
 
-pub all_set : Laws → (now es ps : List Entry) → ((q : Parameter) → (value_of now q).1 ≤ 127) → Good ps → AreEntered es → Apart es → Fresh now ps es → AllSet ps (entered_all now es ps) es
+pub all_set : Laws → (now es ps : List Entry) → ((q : Parameter) → (value_of now q).1 ≤ 127) → Good ps → AreEntered es
+    → Apart es → Fresh now ps es → AllSet ps (entered_all now es ps) es
 all_set l now [] ps b g h a f = record { good = g; values = λ q. refl }
 all_set l now (e ∷ es) ps b g h a f =
     let v : ℕ × ℕ = value_of now e.parameter in

@@ -37,7 +37,8 @@ keys_none : (c k : ℕ) (xs : List ℕ) → bring_keys c k xs xs ≡ []
 keys_none c k [] = refl
 keys_none c k (x ∷ xs) = ap (λ l. l ++ bring_keys c (k + 1) xs xs) (differs_none x (KeyPressure c k x)) ∙ keys_none c (k + 1) xs
 
-controls_one : (c k j v : ℕ) (xs : List ℕ) → j < length xs → bring_controls c k xs (set xs j v) ≡ where_differs (get_or xs j 0) v (Control c (k + j) v)
+controls_one : (c k j v : ℕ) (xs : List ℕ) → j < length xs
+    → bring_controls c k xs (set xs j v) ≡ where_differs (get_or xs j 0) v (Control c (k + j) v)
 controls_one c k j v [] h = absurd (omega (arith, h))
 controls_one c k zero v (x ∷ xs) h =
     let e : k ≡ k + 0 = omega arith in
@@ -46,7 +47,8 @@ controls_one c k (suc j) v (x ∷ xs) h =
     let e : (k + 1) + j ≡ k + suc j = omega arith in
     ap (λ l. l ++ bring_controls c (k + 1) xs (set xs j v)) (differs_none x (Control c k x)) ∙ controls_one c (k + 1) j v xs (omega (arith, h)) ∙ ap (λ i. where_differs (get_or xs j 0) v (Control c i v)) e
 
-keys_one : (c k j v : ℕ) (xs : List ℕ) → j < length xs → bring_keys c k xs (set xs j v) ≡ where_differs (get_or xs j 0) v (KeyPressure c (k + j) v)
+keys_one : (c k j v : ℕ) (xs : List ℕ) → j < length xs
+    → bring_keys c k xs (set xs j v) ≡ where_differs (get_or xs j 0) v (KeyPressure c (k + j) v)
 keys_one c k j v [] h = absurd (omega (arith, h))
 keys_one c k zero v (x ∷ xs) h =
     let e : k ≡ k + 0 = omega arith in
@@ -60,9 +62,12 @@ params_none c s h = ap (λ es. closed c (bring_each c s.own.params es))
     (none_changed s.own.params s.own.params (changes s.own.params s.own.params) (changes_differ s.own.params s.own.params h.canonical h.canonical) (λ q. refl))
 
 -- group by group
-bring_by : (c : ℕ) (now wanted : State) (v k p w b ks : List Msg) → bring_voice c now.own wanted.own.voice ≡ v → bring_controls c 0 (apply_all now v).own.controls wanted.own.controls ≡ k
-    → closed c (bring_each c now.own.params (changes now.own.params wanted.own.params)) ≡ p → where_differs now.own.pressure wanted.own.pressure (Pressure c wanted.own.pressure) ≡ w
-    → where_differs now.own.bend wanted.own.bend (Bend c wanted.own.bend) ≡ b → bring_keys c 0 now.keys wanted.keys ≡ ks → bring c now wanted ≡ ((((v ++ k) ++ p) ++ w) ++ b) ++ ks
+bring_by : (c : ℕ) (now wanted : State) (v k p w b ks : List Msg) → bring_voice c now.own wanted.own.voice ≡ v
+    → bring_controls c 0 (apply_all now v).own.controls wanted.own.controls ≡ k
+    → closed c (bring_each c now.own.params (changes now.own.params wanted.own.params)) ≡ p
+    → where_differs now.own.pressure wanted.own.pressure (Pressure c wanted.own.pressure) ≡ w
+    → where_differs now.own.bend wanted.own.bend (Bend c wanted.own.bend) ≡ b → bring_keys c 0 now.keys wanted.keys ≡ ks
+    → bring c now wanted ≡ ((((v ++ k) ++ p) ++ w) ++ b) ++ ks
 bring_by c now wanted v k p w b ks ev ek ep ew eb eks =
     let ps : List Msg = closed c (bring_each c now.own.params (changes now.own.params wanted.own.params)) in
     let ws : List Msg = where_differs now.own.pressure wanted.own.pressure (Pressure c wanted.own.pressure) in
@@ -120,7 +125,8 @@ stored_low n e = elim (cases_lt n 120) [
         )
         (kept_not (nat_eq n 120) (nat_eq n 121) (nat_eq n 123 || (nat_eq n 124 || nat_eq n 127)))
 
-pub writes_controller : (c n v : ℕ) (s : State) → IsWellFormed s → is_stored n ≡ true → bring c s (apply_state s (Control c n v)) ≡ where_differs (control_of s.own n) v (Control c n v)
+pub writes_controller : (c n v : ℕ) (s : State) → IsWellFormed s → is_stored n ≡ true
+    → bring c s (apply_state s (Control c n v)) ≡ where_differs (control_of s.own n) v (Control c n v)
 writes_controller c n v s h e =
     let z : 0 + n ≡ n = omega arith in
     ap (bring c s) (stored_step s c n v e)
@@ -129,7 +135,8 @@ writes_controller c n v s h e =
     (params_none c s h) (differs_none s.own.pressure (Pressure c s.own.pressure)) (differs_none s.own.bend (Bend c s.own.bend)) (keys_none c 0 s.keys)
     ∙ ends_often (where_differs (control_of s.own n) v (Control c n v))
 
-selected : (s : State) (n v : ℕ) (r : Role) → is_selecting r ≡ true → (sel : Selection) × ((let t : State = record { own = controlled s.own n v r; keys = reset_keys s.keys r } in t) ≡ at_params s sel s.own.params)
+selected : (s : State) (n v : ℕ) (r : Role) → is_selecting r ≡ true
+    → (sel : Selection) × ((let t : State = record { own = controlled s.own n v r; keys = reset_keys s.keys r } in t) ≡ at_params s sel s.own.params)
 selected s n v NrpnLow e = (_, refl)
 selected s n v NrpnHigh e = (_, refl)
 selected s n v RpnLow e = (_, refl)
@@ -142,7 +149,8 @@ selected s n v ResetControllers e = absurd (false≢true e)
 selected s n v AllNotesOff e = absurd (false≢true e)
 selected s n v Ignored e = absurd (false≢true e)
 
-pub writes_no_number : (c n v : ℕ) (s : State) → IsWellFormed s → is_selecting (role n) ≡ true → bring c s (apply_state s (Control c n v)) ≡ []
+pub writes_no_number : (c n v : ℕ) (s : State) → IsWellFormed s → is_selecting (role n) ≡ true
+    → bring c s (apply_state s (Control c n v)) ≡ []
 writes_no_number c n v s h e = let t = selected s n v (role n) e in ap (bring c s) t.1 ∙ writes_nothing c s h
 
 -- ---- data entry
@@ -158,7 +166,8 @@ low_bytes_by c true h l v = refl
 low_bytes_by c false h l v = refl
 
 -- a parameter that is given a value: nothing, or its one entry
-put_changes : Laws → (ps : List Entry) (p : Parameter) (v : ℕ × ℕ) → Good ps → (let e : Entry = record { parameter = p; value = v } in IsEntered e)
+put_changes : Laws → (ps : List Entry) (p : Parameter) (v : ℕ × ℕ) → Good ps
+    → (let e : Entry = record { parameter = p; value = v } in IsEntered e)
     → ((value_of ps p ≡ v) × (changes ps (put p v ps) ≡ [])) ⊎ ((value_of ps p ≢ v) × (changes ps (put p v ps) ≡ record { parameter = p; value = v } ∷ []))
 put_changes l ps p v g e =
     let qs : List Entry = put p v ps in
@@ -180,7 +189,8 @@ put_changes l ps p v g e =
           inr (x, one_changed ps qs (changes ps qs) p e.small (entered_changes ps qs g.1 ge) (changes_apart ps qs g.0 gc) d others (changes_set ps qs p g.0 gc) (λ y. x (y ∙ here)) ∙ ap (λ y. record { parameter = p; value = y } ∷ []) here)
     ]
 
-set_values : Laws → (c : ℕ) (s : State) (p : Parameter) (v : ℕ × ℕ) (ms : List Msg) → IsWellFormed s → closed c (bring_each c s.own.params (changes s.own.params (put p v s.own.params))) ≡ ms
+set_values : Laws → (c : ℕ) (s : State) (p : Parameter) (v : ℕ × ℕ) (ms : List Msg) → IsWellFormed s
+    → closed c (bring_each c s.own.params (changes s.own.params (put p v s.own.params))) ≡ ms
     → bring c s (at_params s s.own.selection (put p v s.own.params)) ≡ ms
 set_values l c s p v ms h e =
     bring_by c s (at_params s s.own.selection (put p v s.own.params)) [] [] ms [] [] [] (voice_none c s.own) (controls_none c 0 s.own.controls) e (differs_none s.own.pressure (Pressure c s.own.pressure)) (differs_none s.own.bend (Bend c s.own.bend)) (keys_none c 0 s.keys)
@@ -229,12 +239,14 @@ writes_low l c v s p h low t =
 
 -- ---- program, pressures and bend
 
-pub writes_program : (c p : ℕ) (s : State) → IsWellFormed s → bring c s (apply_state s (Program c p)) ≡ cond (voice_eq s.own.voice (apply_state s (Program c p)).own.voice) [] (Program c p ∷ [])
+pub writes_program : (c p : ℕ) (s : State) → IsWellFormed s
+    → bring c s (apply_state s (Program c p)) ≡ cond (voice_eq s.own.voice (apply_state s (Program c p)).own.voice) [] (Program c p ∷ [])
 writes_program c p s h =
     let w : Voice = record { high = control_of s.own 0; low = control_of s.own 32; program = p } in
     pick (voice_eq s.own.voice w) refl
   where
-    pick : (b : Bool) → voice_eq s.own.voice (apply_state s (Program c p)).own.voice ≡ b → bring c s (apply_state s (Program c p)) ≡ cond b [] (Program c p ∷ [])
+    pick : (b : Bool) → voice_eq s.own.voice (apply_state s (Program c p)).own.voice ≡ b
+        → bring c s (apply_state s (Program c p)) ≡ cond b [] (Program c p ∷ [])
     pick true e =
         bring_by c s (apply_state s (Program c p)) [] [] [] [] [] []
         (ap (λ b. cond b [] ((where_differs (control_of s.own 0) (control_of s.own 0) (Control c 0 (control_of s.own 0)) ++ where_differs (control_of s.own 32) (control_of s.own 32) (Control c 32 (control_of s.own 32))) ++ Program c p ∷ [])) e)
@@ -246,17 +258,20 @@ writes_program c p s h =
         ∙ ap (λ x. x ++ Program c p ∷ []) (differs_none (control_of s.own 32) (Control c 32 (control_of s.own 32))))
         (controls_none c 0 s.own.controls) (params_none c s h) (differs_none s.own.pressure (Pressure c s.own.pressure)) (differs_none s.own.bend (Bend c s.own.bend)) (keys_none c 0 s.keys)
 
-pub writes_pressure : (c v : ℕ) (s : State) → IsWellFormed s → bring c s (apply_state s (Pressure c v)) ≡ where_differs s.own.pressure v (Pressure c v)
+pub writes_pressure : (c v : ℕ) (s : State) → IsWellFormed s
+    → bring c s (apply_state s (Pressure c v)) ≡ where_differs s.own.pressure v (Pressure c v)
 writes_pressure c v s h =
     bring_by c s (apply_state s (Pressure c v)) [] [] [] (where_differs s.own.pressure v (Pressure c v)) [] [] (voice_none c s.own) (controls_none c 0 s.own.controls) (params_none c s h) refl (differs_none s.own.bend (Bend c s.own.bend)) (keys_none c 0 s.keys)
     ∙ ends_twice (where_differs s.own.pressure v (Pressure c v))
 
-pub writes_bend : (c v : ℕ) (s : State) → IsWellFormed s → bring c s (apply_state s (Bend c v)) ≡ where_differs s.own.bend v (Bend c v)
+pub writes_bend : (c v : ℕ) (s : State) → IsWellFormed s
+    → bring c s (apply_state s (Bend c v)) ≡ where_differs s.own.bend v (Bend c v)
 writes_bend c v s h =
     bring_by c s (apply_state s (Bend c v)) [] [] [] [] (where_differs s.own.bend v (Bend c v)) [] (voice_none c s.own) (controls_none c 0 s.own.controls) (params_none c s h) (differs_none s.own.pressure (Pressure c s.own.pressure)) refl (keys_none c 0 s.keys)
     ∙ ends_once (where_differs s.own.bend v (Bend c v))
 
-pub writes_key_pressure : (c k v : ℕ) (s : State) → IsWellFormed s → k < 128 → bring c s (apply_state s (KeyPressure c k v)) ≡ where_differs (get_or s.keys k 0) v (KeyPressure c k v)
+pub writes_key_pressure : (c k v : ℕ) (s : State) → IsWellFormed s → k < 128
+    → bring c s (apply_state s (KeyPressure c k v)) ≡ where_differs (get_or s.keys k 0) v (KeyPressure c k v)
 writes_key_pressure c k v s h low =
     let z : 0 + k ≡ k = omega arith in
     bring_by c s (apply_state s (KeyPressure c k v)) [] [] [] [] [] (where_differs (get_or s.keys k 0) v (KeyPressure c k v)) (voice_none c s.own) (controls_none c 0 s.own.controls) (params_none c s h) (differs_none s.own.pressure (Pressure c s.own.pressure)) (differs_none s.own.bend (Bend c s.own.bend))

@@ -79,7 +79,8 @@ asks_none m c st (Pressure d v) e h = refl
 asks_none m c st (Bend d v) e h = refl
 
 -- the channel's new state, no other, and its notes settled
-pub one_step_by : (t : ℕ) (ss : List Channel) (c : ℕ) (own : Channel) (ns : List Note) (msg : Msg) → c < length ss → channel_of msg ≡ c → (let m : Music = music_of ss c own ns in asks m msg ≡ None)
+pub one_step_by : (t : ℕ) (ss : List Channel) (c : ℕ) (own : Channel) (ns : List Note) (msg : Msg) → c < length ss
+    → channel_of msg ≡ c → (let m : Music = music_of ss c own ns in asks m msg ≡ None)
     → (let m : Music = music_of ss c own ns in let s : Channel = apply own msg in settle t (act t msg m) ≡ music_of ss c s (map (settled_by t ss c (control_of s 64)) (notes_after m t msg)))
 one_step_by t ss c own ns msg low at none =
     let m : Music = music_of ss c own ns in
@@ -120,7 +121,8 @@ pub still_append : (a b : List Msg) → AreStill a → AreStill b → AreStill (
 still_append [] b h k = k
 still_append (m ∷ a) b h k = (h.0, still_append a b h.1 k)
 
-turned_still : (m : Music) (sel : Selection) (t c n v : ℕ) (r : Role) → nat_eq n 66 ≡ false → only_sets_by sel r ≡ true → notes_turned m t c n v r ≡ m.notes
+turned_still : (m : Music) (sel : Selection) (t c n v : ℕ) (r : Role) → nat_eq n 66 ≡ false → only_sets_by sel r ≡ true
+    → notes_turned m t c n v r ≡ m.notes
 turned_still m sel t c n v Stored e h = ap (λ b. cond b (map (sostenuto m.zones c (control_of (channel_at m c) 66) v) m.notes) m.notes) e
 turned_still m sel t c n v EntryHigh e h = refl
 turned_still m sel t c n v EntryLow e h = refl
@@ -133,7 +135,8 @@ turned_still m sel t c n v ResetControllers e h = absurd (false≢true h)
 turned_still m sel t c n v AllNotesOff e h = absurd (false≢true h)
 turned_still m sel t c n v Ignored e h = refl
 
-notes_still : (m : Music) (t c : ℕ) (st : State) (msg : Msg) → OnlySets c st msg → is_still msg ≡ true → notes_after m t msg ≡ m.notes
+notes_still : (m : Music) (t c : ℕ) (st : State) (msg : Msg) → OnlySets c st msg → is_still msg ≡ true
+    → notes_after m t msg ≡ m.notes
 notes_still m t c st (Control d n v) h s = turned_still m st.own.selection t d n v (role n) (not-true (nat_eq n 66) (and_parts (not (nat_eq n 64)) (not (nat_eq n 66)) s).1) h.sets
 notes_still m t c st (NoteOn d k v) h s = absurd (false≢true s)
 notes_still m t c st (NoteOff d k v) h s = absurd (false≢true s)
@@ -143,7 +146,8 @@ notes_still m t c st (Pressure d v) h s = refl
 notes_still m t c st (Bend d v) h s = refl
 
 -- another controller than k leaves it
-turned_other : (s : Channel) (sel : Selection) (n v k : ℕ) (r : Role) → nat_eq n k ≡ false → only_sets_by sel r ≡ true → control_of (controlled s n v r) k ≡ control_of s k
+turned_other : (s : Channel) (sel : Selection) (n v k : ℕ) (r : Role) → nat_eq n k ≡ false → only_sets_by sel r ≡ true
+    → control_of (controlled s n v r) k ≡ control_of s k
 turned_other s sel n v k Stored e h = get_or-set_other s.controls n k v 0 (λ x. eqb-false n k e (sym x))
 turned_other s sel n v k EntryHigh e h = refl
 turned_other s sel n v k EntryLow e h = refl
@@ -156,7 +160,8 @@ turned_other s sel n v k ResetControllers e h = absurd (false≢true h)
 turned_other s sel n v k AllNotesOff e h = refl
 turned_other s sel n v k Ignored e h = refl
 
-turned_length : (s : Channel) (sel : Selection) (n v : ℕ) (r : Role) → only_sets_by sel r ≡ true → length (controlled s n v r).controls ≡ length s.controls
+turned_length : (s : Channel) (sel : Selection) (n v : ℕ) (r : Role) → only_sets_by sel r ≡ true
+    → length (controlled s n v r).controls ≡ length s.controls
 turned_length s sel n v Stored h = length-set s.controls n v
 turned_length s sel n v EntryHigh h = refl
 turned_length s sel n v EntryLow h = refl
@@ -194,7 +199,8 @@ pub record Inert (t : ℕ) (ss : List Channel) (c : ℕ) (st : State) (ns : List
   pub music : sounded t (music_of ss c st.own ns) ms ≡ music_of ss c (apply_all st ms).own ns
   pub pedals : SamePedals st.own (apply_all st ms).own
 
-pub inert : (t : ℕ) (ss : List Channel) (c : ℕ) (st : State) (ns : List Note) (ms : List Msg) → c < length ss → Along (OnlySets c) st ms → AreStill ms → Calm t ss c (control_of st.own 64) ns → Inert t ss c st ns ms
+pub inert : (t : ℕ) (ss : List Channel) (c : ℕ) (st : State) (ns : List Note) (ms : List Msg) → c < length ss
+    → Along (OnlySets c) st ms → AreStill ms → Calm t ss c (control_of st.own 64) ns → Inert t ss c st ns ms
 inert t ss c st ns [] low a s k = record { music = refl; pedals = record { hold = refl; sostenuto = refl; length = refl } }
 inert t ss c st ns (x ∷ ms) low a s k =
     let same = same_still c st x a.0 s.0 in
@@ -223,7 +229,8 @@ pub record Holds (t : ℕ) (ss : List Channel) (c : ℕ) (st : State) (ns : List
   pub sostenuto : control_of (apply_all st ms).own 66 ≡ control_of st.own 66
   pub length : length (apply_all st ms).own.controls ≡ length st.own.controls
 
-pub hold_pedal : (t : ℕ) (ss : List Channel) (c : ℕ) (st : State) (ns : List Note) (x y : ℕ) → c < length ss → length st.own.controls ≡ 120 → control_of st.own 64 ≡ x → Calm t ss c x ns
+pub hold_pedal : (t : ℕ) (ss : List Channel) (c : ℕ) (st : State) (ns : List Note) (x y : ℕ) → c < length ss
+    → length st.own.controls ≡ 120 → control_of st.own 64 ≡ x → Calm t ss c x ns
     → Holds t ss c st ns (where_differs x y (Control c 64 y)) y
 hold_pedal t ss c st ns x y low len e k = pick (nat_eq x y) refl
   where
@@ -247,7 +254,8 @@ hold_pedal t ss c st ns x y low len e k = pick (nat_eq x y) refl
         }
 
 -- the sostenuto pedal, where it differs
-pub sostenuto_pedal : (t : ℕ) (ss : List Channel) (c : ℕ) (st : State) (ns : List Note) (x y : ℕ) → c < length ss → control_of st.own 66 ≡ x → Calm t ss c (control_of st.own 64) ns
+pub sostenuto_pedal : (t : ℕ) (ss : List Channel) (c : ℕ) (st : State) (ns : List Note) (x y : ℕ) → c < length ss
+    → control_of st.own 66 ≡ x → Calm t ss c (control_of st.own 64) ns
     → (let ms : List Msg = where_differs x y (Control c 66 y) in
     (sounded t (music_of ss c st.own ns) ms ≡ music_of ss c (apply_all st ms).own (map (settled_by t ss c (control_of st.own 64)) (map (sostenuto no_zones c x y) ns)))
     × (control_of (apply_all st ms).own 64 ≡ control_of st.own 64))
@@ -290,7 +298,9 @@ controls_split c n i (u ∷ a) b [] e x y l f = absurd (omega (arith, l))
 controls_split c n i (u ∷ a) b (v ∷ d) e x y l f = ap (λ r. where_differs u v (Control c n v) ++ r) (controls_split c (n + 1) i a b d e x y (omega (arith, l)) (omega (arith, f)))
     ∙ sym (append_assoc (where_differs u v (Control c n v)) (bring_controls c (n + 1) a d) (where_differs x y (Control c i y) ++ bring_controls c (i + 1) b e))
 
-pub controls_still : (c n : ℕ) (xs ys : List ℕ) → ((i : ℕ) → i < length xs → (not (nat_eq (n + i) 64) && not (nat_eq (n + i) 66)) ≡ true) → AreStill (bring_controls c n xs ys)
+pub controls_still : (c n : ℕ) (xs ys : List ℕ)
+    → ((i : ℕ) → i < length xs → (not (nat_eq (n + i) 64) && not (nat_eq (n + i) 66)) ≡ true)
+    → AreStill (bring_controls c n xs ys)
 controls_still c n [] ys h = tt
 controls_still c n (x ∷ xs) [] h = tt
 controls_still c n (x ∷ xs) (y ∷ ys) h =
@@ -299,6 +309,7 @@ controls_still c n (x ∷ xs) (y ∷ ys) h =
     pick (nat_eq x y) (ap (λ j. not (nat_eq j 64) && not (nat_eq j 66)) (sym first) ∙ h 0 (omega arith))
     (controls_still c (n + 1) xs ys (λ i l. ap (λ j. not (nat_eq j 64) && not (nat_eq j 66)) (shift i) ∙ h (suc i) (omega (arith, l))))
   where
-    pick : (b : Bool) → (not (nat_eq n 64) && not (nat_eq n 66)) ≡ true → AreStill (bring_controls c (n + 1) xs ys) → AreStill (cond b [] (Control c n y ∷ []) ++ bring_controls c (n + 1) xs ys)
+    pick : (b : Bool) → (not (nat_eq n 64) && not (nat_eq n 66)) ≡ true → AreStill (bring_controls c (n + 1) xs ys)
+        → AreStill (cond b [] (Control c n y ∷ []) ++ bring_controls c (n + 1) xs ys)
     pick true e r = r
     pick false e r = (e, r)

@@ -53,10 +53,12 @@ same_voice a b e =
     let p : a.program ≡ b.program = eqb-true a.program b.program u.1 in
     ap (λ x. record a { high = x }) h ∙ ap (λ x. record a { high = b.high; low = x }) l ∙ ap (λ x. record b { program = x }) p
 
-program_set : (s : State) (c : ℕ) (cs : List ℕ) (v : Voice) → get_or cs 0 0 ≡ v.high → get_or cs 32 0 ≡ v.low → apply_state (with_controls s cs) (Program c v.program) ≡ voiced s cs v
+program_set : (s : State) (c : ℕ) (cs : List ℕ) (v : Voice) → get_or cs 0 0 ≡ v.high → get_or cs 32 0 ≡ v.low
+    → apply_state (with_controls s cs) (Program c v.program) ≡ voiced s cs v
 program_set s c cs v h l = ap (λ x. voiced s cs (record { high = x; low = get_or cs 32 0; program = v.program })) h ∙ ap (λ x. voiced s cs (record v { low = x })) l
 
-voice_by : (s : State) (c : ℕ) (v : Voice) (high low : Bool) → length s.own.controls ≡ 120 → nat_eq (get_or s.own.controls 0 0) v.high ≡ high → nat_eq (get_or s.own.controls 32 0) v.low ≡ low
+voice_by : (s : State) (c : ℕ) (v : Voice) (high low : Bool) → length s.own.controls ≡ 120
+    → nat_eq (get_or s.own.controls 0 0) v.high ≡ high → nat_eq (get_or s.own.controls 32 0) v.low ≡ low
     → (let cs : List ℕ = s.own.controls in let one : List ℕ = cond high cs (set cs 0 v.high) in let two : List ℕ = cond low one (set one 32 v.low) in
     apply_all s ((cond high [] (Control c 0 v.high ∷ []) ++ cond low [] (Control c 32 v.low ∷ [])) ++ Program c v.program ∷ []) ≡ voiced s two v)
 voice_by s c v true true n h l = program_set s c s.own.controls v (eqb-true (get_or s.own.controls 0 0) v.high h) (eqb-true (get_or s.own.controls 32 0) v.low l)
@@ -71,7 +73,8 @@ voice_by s c v false false n h l =
     let one : List ℕ = set cs 0 v.high in
     program_set s c (set one 32 v.low) v (get_or-set_other one 32 0 v.low 0 (λ x. omega (arith, x)) ∙ get_or-set_same cs 0 v.high 0 (omega (arith, n))) (get_or-set_same one 32 v.low 0 (omega (arith, n, length-set cs 0 v.high)))
 
-pub voice_reach : (s : State) (c : ℕ) (v : Voice) → length s.own.controls ≡ 120 → apply_all s (bring_voice c s.own v) ≡ voiced s (voice_controls s.own.controls s.own.voice v) v
+pub voice_reach : (s : State) (c : ℕ) (v : Voice) → length s.own.controls ≡ 120
+    → apply_all s (bring_voice c s.own v) ≡ voiced s (voice_controls s.own.controls s.own.voice v) v
 voice_reach s c v n = pick (voice_eq s.own.voice v) refl
   where
     pick : (b : Bool) → voice_eq s.own.voice v ≡ b
@@ -86,12 +89,15 @@ pub stored_role : (r : Role) → is_kept r ≡ true → r ≡ Stored
 stored_role Stored e = refl
 stored_role _ e = absurd cc
 
-pub stored_step : (s : State) (c n v : ℕ) → is_stored n ≡ true → apply_state s (Control c n v) ≡ with_controls s (set s.own.controls n v)
+pub stored_step : (s : State) (c n v : ℕ) → is_stored n ≡ true
+    → apply_state s (Control c n v) ≡ with_controls s (set s.own.controls n v)
 stored_step s c n v e = ap (λ r. let t : State = record { own = controlled s.own n v r; keys = reset_keys s.keys r } in t) (stored_role (role n) e)
 
 -- The lists stand at place n of a list, for which K stands.
-pub controls_reach : (s : State) (c n : ℕ) (K : List ℕ → List ℕ) → ((l : List ℕ) (i y : ℕ) → set (K l) (n + i) y ≡ K (set l i y)) → (xs ys : List ℕ) → length xs ≡ length ys
-    → ((i : ℕ) → is_stored (n + i) ≡ false → get_or xs i 0 ≡ get_or ys i 0) → apply_all (with_controls s (K xs)) (bring_controls c n xs ys) ≡ with_controls s (K ys)
+pub controls_reach : (s : State) (c n : ℕ) (K : List ℕ → List ℕ)
+    → ((l : List ℕ) (i y : ℕ) → set (K l) (n + i) y ≡ K (set l i y)) → (xs ys : List ℕ) → length xs ≡ length ys
+    → ((i : ℕ) → is_stored (n + i) ≡ false → get_or xs i 0 ≡ get_or ys i 0)
+    → apply_all (with_controls s (K xs)) (bring_controls c n xs ys) ≡ with_controls s (K ys)
 controls_reach s c n K h [] [] e u = refl
 controls_reach s c n K h [] (y ∷ ys) e u = absurd (omega (arith, e))
 controls_reach s c n K h (x ∷ xs) [] e u = absurd (omega (arith, e))
@@ -102,7 +108,8 @@ controls_reach s c n K h (x ∷ xs) (y ∷ ys) e u =
     controls_reach s c (n + 1) (λ l. K (y ∷ l)) (λ l i z. ap (λ j. set (K (y ∷ l)) j z) (shift i) ∙ h (y ∷ l) (suc i) z) xs ys (omega (arith, e)) (λ i t. u (suc i) (ap is_stored (sym (shift i)) ∙ t)) in
     pick (nat_eq x y) refl first rest
   where
-    pick : (b : Bool) → nat_eq x y ≡ b → n + 0 ≡ n → apply_all (with_controls s (K (y ∷ xs))) (bring_controls c (n + 1) xs ys) ≡ with_controls s (K (y ∷ ys))
+    pick : (b : Bool) → nat_eq x y ≡ b → n + 0 ≡ n
+        → apply_all (with_controls s (K (y ∷ xs))) (bring_controls c (n + 1) xs ys) ≡ with_controls s (K (y ∷ ys))
         → apply_all (with_controls s (K (x ∷ xs))) (cond b [] (Control c n y ∷ []) ++ bring_controls c (n + 1) xs ys) ≡ with_controls s (K (y ∷ ys))
     pick true t first rest = ap (λ z. apply_all (with_controls s (K (z ∷ xs))) (bring_controls c (n + 1) xs ys)) (eqb-true x y t) ∙ rest
     pick false t first rest =
@@ -115,7 +122,8 @@ controls_reach s c n K h (x ∷ xs) (y ∷ ys) e u =
 
 -- ---- the key pressures
 
-pub keys_reach : (s : State) (c n : ℕ) (K : List ℕ → List ℕ) → ((l : List ℕ) (i y : ℕ) → set (K l) (n + i) y ≡ K (set l i y)) → (xs ys : List ℕ) → length xs ≡ length ys
+pub keys_reach : (s : State) (c n : ℕ) (K : List ℕ → List ℕ) → ((l : List ℕ) (i y : ℕ) → set (K l) (n + i) y ≡ K (set l i y))
+    → (xs ys : List ℕ) → length xs ≡ length ys
     → apply_all (with_keys s (K xs)) (bring_keys c n xs ys) ≡ with_keys s (K ys)
 keys_reach s c n K h [] [] e = refl
 keys_reach s c n K h [] (y ∷ ys) e = absurd (omega (arith, e))
@@ -127,7 +135,8 @@ keys_reach s c n K h (x ∷ xs) (y ∷ ys) e =
     keys_reach s c (n + 1) (λ l. K (y ∷ l)) (λ l i z. ap (λ j. set (K (y ∷ l)) j z) (shift i) ∙ h (y ∷ l) (suc i) z) xs ys (omega (arith, e)) in
     pick (nat_eq x y) refl first rest
   where
-    pick : (b : Bool) → nat_eq x y ≡ b → n + 0 ≡ n → apply_all (with_keys s (K (y ∷ xs))) (bring_keys c (n + 1) xs ys) ≡ with_keys s (K (y ∷ ys))
+    pick : (b : Bool) → nat_eq x y ≡ b → n + 0 ≡ n
+        → apply_all (with_keys s (K (y ∷ xs))) (bring_keys c (n + 1) xs ys) ≡ with_keys s (K (y ∷ ys))
         → apply_all (with_keys s (K (x ∷ xs))) (cond b [] (KeyPressure c n y ∷ []) ++ bring_keys c (n + 1) xs ys) ≡ with_keys s (K (y ∷ ys))
     pick true t first rest = ap (λ z. apply_all (with_keys s (K (z ∷ xs))) (bring_keys c (n + 1) xs ys)) (eqb-true x y t) ∙ rest
     pick false t first rest = ap (λ l. apply_all (with_keys s l) (bring_keys c (n + 1) xs ys)) (ap (λ j. set (K (x ∷ xs)) j y) (sym first) ∙ h (x ∷ xs) 0 y) ∙ rest
@@ -146,7 +155,8 @@ choose_by : (s : State) (sel : Selection) (ps : List Entry) (c : ℕ) (b : Bool)
 choose_by s sel ps c true h l = refl
 choose_by s sel ps c false h l = refl
 
-pub choose_reach : (s : State) (sel : Selection) (ps : List Entry) (c : ℕ) (p : Parameter) → apply_all (at_params s sel ps) (choose_parameter c p) ≡ at_params s (choose sel p) ps
+pub choose_reach : (s : State) (sel : Selection) (ps : List Entry) (c : ℕ) (p : Parameter)
+    → apply_all (at_params s sel ps) (choose_parameter c p) ≡ at_params s (choose sel p) ps
 choose_reach s sel ps c p = choose_by s sel ps c p.registered p.high p.low
 
 value_by_tests : (p : Parameter) (r s t : Bool) → is_value (target_by p r s t) ≡ true → target_by p r s t ≡ Value p
@@ -179,10 +189,12 @@ abbrev pub entered_all : List Entry → List Entry → List Entry → List Entry
 entered_all now [] ps = ps
 entered_all now (e ∷ es) ps = entered_all now es (entered (value_of now e.parameter) e ps)
 
-pub high_step : (s : State) (sel : Selection) (ps : List Entry) (c v : ℕ) (p : Parameter) → target sel ≡ Value p → apply_state (at_params s sel ps) (Control c 6 v) ≡ at_params s sel (put p (v, (value_of ps p).1) ps)
+pub high_step : (s : State) (sel : Selection) (ps : List Entry) (c v : ℕ) (p : Parameter) → target sel ≡ Value p
+    → apply_state (at_params s sel ps) (Control c 6 v) ≡ at_params s sel (put p (v, (value_of ps p).1) ps)
 high_step s sel ps c v p e = ap (λ t. at_params s sel (with_high v t ps)) e
 
-pub low_step : (s : State) (sel : Selection) (ps : List Entry) (c v : ℕ) (p : Parameter) → target sel ≡ Value p → apply_state (at_params s sel ps) (Control c 38 v) ≡ at_params s sel (put p ((value_of ps p).0, v) ps)
+pub low_step : (s : State) (sel : Selection) (ps : List Entry) (c v : ℕ) (p : Parameter) → target sel ≡ Value p
+    → apply_state (at_params s sel ps) (Control c 38 v) ≡ at_params s sel (put p ((value_of ps p).0, v) ps)
 low_step s sel ps c v p e = ap (λ t. at_params s sel (with_low v t ps)) e
 
 values_by : (s : State) (sel : Selection) (ps : List Entry) (c : ℕ) (e : Entry) (a b : Bool) → target sel ≡ Value e.parameter
@@ -195,12 +207,14 @@ values_by s sel ps c e false false t =
     let one : List Entry = put e.parameter (e.value.0, (value_of ps e.parameter).1) ps in
     ap (λ x. apply_state x (Control c 38 e.value.1)) (high_step s sel ps c e.value.0 e.parameter t) ∙ low_step s sel one c e.value.1 e.parameter t
 
-pub parameter_reach : (s : State) (sel : Selection) (ps : List Entry) (c : ℕ) (v : ℕ × ℕ) (e : Entry) → IsEntered e → apply_all (at_params s sel ps) (bring_parameter c v e) ≡ at_params s (choose sel e.parameter) (entered v e ps)
+pub parameter_reach : (s : State) (sel : Selection) (ps : List Entry) (c : ℕ) (v : ℕ × ℕ) (e : Entry) → IsEntered e
+    → apply_all (at_params s sel ps) (bring_parameter c v e) ≡ at_params s (choose sel e.parameter) (entered v e ps)
 parameter_reach s sel ps c v e h =
     next (at_params s sel ps) (at_params s (choose sel e.parameter) ps) (choose_parameter c e.parameter) (where_differs v.0 e.value.0 (Control c 6 e.value.0) ++ where_differs v.1 e.value.1 (Control c 38 e.value.1)) (choose_reach s sel ps c e.parameter)
     ∙ values_by s (choose sel e.parameter) ps c e (nat_eq v.0 e.value.0) (nat_eq v.1 e.value.1) (choose_target sel e.parameter h.settable)
 
-pub each_reach : (s : State) (sel : Selection) (ps : List Entry) (c : ℕ) (now es : List Entry) → AreEntered es → apply_all (at_params s sel ps) (bring_each c now es) ≡ at_params s (chosen_all sel es) (entered_all now es ps)
+pub each_reach : (s : State) (sel : Selection) (ps : List Entry) (c : ℕ) (now es : List Entry) → AreEntered es
+    → apply_all (at_params s sel ps) (bring_each c now es) ≡ at_params s (chosen_all sel es) (entered_all now es ps)
 each_reach s sel ps c now [] h = refl
 each_reach s sel ps c now (e ∷ es) h =
     next (at_params s sel ps) (at_params s (choose sel e.parameter) (entered (value_of now e.parameter) e ps)) (bring_parameter c (value_of now e.parameter) e) (bring_each c now es) (parameter_reach s sel ps c (value_of now e.parameter) e h.0)
@@ -223,10 +237,12 @@ closed_by c true h l x y = refl
 closed_by c false h l x y = refl
 
 -- where parameters are set, the selection is closed
-pub closed_each : (c : ℕ) (now : List Entry) (e : Entry) (es : List Entry) → closed c (bring_each c now (e ∷ es)) ≡ bring_each c now (e ∷ es) ++ closing c
+pub closed_each : (c : ℕ) (now : List Entry) (e : Entry) (es : List Entry)
+    → closed c (bring_each c now (e ∷ es)) ≡ bring_each c now (e ∷ es) ++ closing c
 closed_each c now e es = closed_by c e.parameter.registered e.parameter.high e.parameter.low _ (bring_each c now es)
 
-pub closed_reach : (s : State) (sel : Selection) (ps : List Entry) (c : ℕ) (now es : List Entry) → AreEntered es → apply_all (at_params s sel ps) (closed c (bring_each c now es)) ≡ at_params s (selection_after sel es) (entered_all now es ps)
+pub closed_reach : (s : State) (sel : Selection) (ps : List Entry) (c : ℕ) (now es : List Entry) → AreEntered es
+    → apply_all (at_params s sel ps) (closed c (bring_each c now es)) ≡ at_params s (selection_after sel es) (entered_all now es ps)
 closed_reach s sel ps c now [] h = refl
 closed_reach s sel ps c now (e ∷ es) h =
     ap (λ ms. apply_all (at_params s sel ps) ms) (closed_each c now e es)

@@ -23,13 +23,15 @@ started m c z =
 
 -- ---- a controller that is stored
 
-turned_notes : (m : Music) (t c n v : ℕ) (s : Channel) → channel_at m c ≡ s → m.zones ≡ no_zones → is_stored n ≡ true → length s.controls ≡ 120
+turned_notes : (m : Music) (t c n v : ℕ) (s : Channel) → channel_at m c ≡ s → m.zones ≡ no_zones → is_stored n ≡ true
+    → length s.controls ≡ 120
     → notes_turned m t c n v (role n) ≡ map (sostenuto no_zones c (control_of s 66) (control_of (apply s (Control c n v)) 66)) m.notes
 turned_notes m t c n v s here z e len =
     let r : role n ≡ Stored = stored_role (role n) e in
     ap (notes_turned m t c n v) r ∙ by (nat_eq n 66) refl ∙ ap (λ x. map (sostenuto no_zones c (control_of s 66) (get_or x.controls 66 0)) m.notes) (sym (ap (controlled s n v) r))
   where
-    by : (b : Bool) → nat_eq n 66 ≡ b → cond b (map (sostenuto m.zones c (control_of (channel_at m c) 66) v) m.notes) m.notes ≡ map (sostenuto no_zones c (control_of s 66) (get_or (set s.controls n v) 66 0)) m.notes
+    by : (b : Bool) → nat_eq n 66 ≡ b
+        → cond b (map (sostenuto m.zones c (control_of (channel_at m c) 66) v) m.notes) m.notes ≡ map (sostenuto no_zones c (control_of s 66) (get_or (set s.controls n v) 66 0)) m.notes
     by true e =
         let i : n ≡ 66 = eqb-true n 66 e in
         let to : get_or (set s.controls n v) 66 0 ≡ v = ap (λ j. get_or (set s.controls j v) 66 0) i ∙ get_or-set_same s.controls 66 v 0 (omega (arith, len)) in
@@ -44,7 +46,8 @@ turned_notes m t c n v s here z e len =
 asks_stored : (m : Music) (c n v : ℕ) → is_stored n ≡ true → (let msg : Msg = Control c n v in asks m msg) ≡ None
 asks_stored m c n v e = ap (asked_by m c v) (stored_role (role n) e)
 
-pub controls_stroke : (m : Music) (t track c n v : ℕ) → IsSettled m → m.zones ≡ no_zones → c ≤ 15 → is_stored n ≡ true → length (channel_at m c).controls ≡ 120
+pub controls_stroke : (m : Music) (t track c n v : ℕ) → IsSettled m → m.zones ≡ no_zones → c ≤ 15 → is_stored n ≡ true
+    → length (channel_at m c).controls ≡ 120
     → (play m (events_of t track (Control c n v ∷ []))).notes ≡ map (pedalled t c (channel_at m c) (apply (channel_at m c) (Control c n v))) m.notes
 controls_stroke m t track c n v s z ok e len =
     let ss : List Channel = m.channels in
@@ -68,7 +71,8 @@ by_tests g a b d n = cond g (cond a (cond b n (record n { captured = false })) (
 abbrev muted : Bool → Note → Note
 muted w n = cond w (record n { pressure = 0 }) n
 
-muted_keeps : {A : Type 0} (f : Note → A) (c : ℕ) (n : Note) → ((p : ℕ) → (let x : Note = record n { pressure = p } in f x ≡ f n)) → f (without_pressure c n) ≡ f n
+muted_keeps : {A : Type 0} (f : Note → A) (c : ℕ) (n : Note)
+    → ((p : ℕ) → (let x : Note = record n { pressure = p } in f x ≡ f n)) → f (without_pressure c n) ≡ f n
 muted_keeps f c n h = pick (nat_eq n.channel c && sounds n)
   where
     pick : (b : Bool) → f (muted b n) ≡ f n
@@ -99,7 +103,8 @@ swap z c a b n =
     first ∙ tests_swap w (nat_eq (governor z n.channel) c && sounds n) da db (db && is_down n) n
     ∙ ap (λ y. by_tests y da db (db && is_down n) x) (sym g) ∙ ap (λ y. by_tests (nat_eq (governor z x.channel) c && sounds x) da db y x) (sym d)
 
-calm_muted : (t : ℕ) (ss : List Channel) (c v : ℕ) (ns : List Note) → Calm t ss c v ns → Calm t ss c v (map (without_pressure c) ns)
+calm_muted : (t : ℕ) (ss : List Channel) (c v : ℕ) (ns : List Note) → Calm t ss c v ns
+    → Calm t ss c v (map (without_pressure c) ns)
 calm_muted t ss c v [] h = tt
 calm_muted t ss c v (n ∷ ns) h = (pick (nat_eq n.channel c && sounds n) refl, calm_muted t ss c v ns h.1)
   where
@@ -117,7 +122,8 @@ reset_sostenuto xs h =
     let four : List ℕ = set three 65 0 in
     get_or-set_other (set four 66 0) 67 66 0 0 (λ x. omega (arith, x)) ∙ get_or-set_same four 66 0 0 (omega (arith, h, length-set three 65 0, length-set two 64 0, length-set one 11 127, length-set xs 1 0))
 
-pub reset_strokes : (m : Music) (t track c v : ℕ) → IsSettled m → m.zones ≡ no_zones → c ≤ 15 → length (channel_at m c).controls ≡ 120
+pub reset_strokes : (m : Music) (t track c v : ℕ) → IsSettled m → m.zones ≡ no_zones → c ≤ 15
+    → length (channel_at m c).controls ≡ 120
     → (play m (events_of t track (Control c 121 v ∷ []))).notes ≡ map (λ n. pedalled t c (channel_at m c) (apply (channel_at m c) (Control c 121 v)) (without_pressure c n)) m.notes
 reset_strokes m t track c v s z ok len =
     let ss : List Channel = m.channels in

@@ -99,10 +99,12 @@ abbrev pub value_or : List Entry → ℕ × ℕ → Parameter → ℕ × ℕ
 value_or [] d q = d
 value_or (e ∷ es) d q = cond (nat_eq (rank e.parameter) (rank q)) e.value (value_or es d q)
 
-pub skip_or : (e : Entry) (es : List Entry) (d : ℕ × ℕ) (q : Parameter) → rank e.parameter ≢ rank q → value_or (e ∷ es) d q ≡ value_or es d q
+pub skip_or : (e : Entry) (es : List Entry) (d : ℕ × ℕ) (q : Parameter) → rank e.parameter ≢ rank q
+    → value_or (e ∷ es) d q ≡ value_or es d q
 skip_or e es d q h = rw (ne_eqb (rank e.parameter) (rank q) h) refl
 
-pub found_or : (e : Entry) (es : List Entry) (d : ℕ × ℕ) (q : Parameter) → rank e.parameter ≡ rank q → value_or (e ∷ es) d q ≡ e.value
+pub found_or : (e : Entry) (es : List Entry) (d : ℕ × ℕ) (q : Parameter) → rank e.parameter ≡ rank q
+    → value_or (e ∷ es) d q ≡ e.value
 found_or e es d q h = rw (eq-eqb (rank e.parameter) (rank q) h) refl
 
 pub value_or-missed : (es : List Entry) (d : ℕ × ℕ) (q : Parameter) → Misses (rank q) es → value_or es d q ≡ d
@@ -133,11 +135,13 @@ others_set now (e ∷ es) q h = elim (cases_eq (rank e.parameter) (rank q)) [
   ]
 ]
   where
-    past : (b : Bool) → rank e.parameter ≢ rank q → value_or (cond b (e ∷ filter (wants_other now) es) (filter (wants_other now) es)) (value_of now q) q ≡ value_or (filter (wants_other now) es) (value_of now q) q
+    past : (b : Bool) → rank e.parameter ≢ rank q
+        → value_or (cond b (e ∷ filter (wants_other now) es) (filter (wants_other now) es)) (value_of now q) q ≡ value_or (filter (wants_other now) es) (value_of now q) q
     past true x = skip_or e (filter (wants_other now) es) (value_of now q) q x
     past false x = refl
 
-    hit : (b : Bool) → pair_eq (value_of now e.parameter) e.value ≡ b → rank e.parameter ≡ rank q → value_or (cond (not b) (e ∷ filter (wants_other now) es) (filter (wants_other now) es)) (value_of now q) q ≡ e.value
+    hit : (b : Bool) → pair_eq (value_of now e.parameter) e.value ≡ b → rank e.parameter ≡ rank q
+        → value_or (cond (not b) (e ∷ filter (wants_other now) es) (filter (wants_other now) es)) (value_of now q) q ≡ e.value
     hit false k x = found_or e (filter (wants_other now) es) (value_of now q) q x
     hit true k x =
         let m : Misses (rank q) es = subst (λ (n : ℕ). Misses n es) x (misses_above (rank e.parameter) es h.1) in
@@ -161,7 +165,8 @@ defaults_leave wanted (e ∷ es) d q = pick (wants_default wanted e) (defaults_l
     ]
 
 -- and where it is wanted, it is reached
-pub defaults_set : (wanted es : List Entry) (q : Parameter) → value_of wanted q ≡ default_value q → value_or (map made_default (filter (wants_default wanted) es)) (value_of es q) q ≡ default_value q
+pub defaults_set : (wanted es : List Entry) (q : Parameter) → value_of wanted q ≡ default_value q
+    → value_or (map made_default (filter (wants_default wanted) es)) (value_of es q) q ≡ default_value q
 defaults_set wanted [] q h = refl
 defaults_set wanted (e ∷ es) q h = elim (cases_eq (rank e.parameter) (rank q)) [
   | inl x ↦
@@ -171,12 +176,14 @@ defaults_set wanted (e ∷ es) q h = elim (cases_eq (rank e.parameter) (rank q))
   | inr x ↦ past (wants_default wanted e) x ∙ ap (λ d. value_or (map made_default (filter (wants_default wanted) es)) d q) (skip e es q x) ∙ defaults_set wanted es q h
 ]
   where
-    past : (b : Bool) → rank e.parameter ≢ rank q → value_or (map made_default (cond b (e ∷ filter (wants_default wanted) es) (filter (wants_default wanted) es))) (value_of (e ∷ es) q) q ≡ value_or (map made_default (filter (wants_default wanted) es)) (value_of (e ∷ es) q) q
+    past : (b : Bool) → rank e.parameter ≢ rank q
+        → value_or (map made_default (cond b (e ∷ filter (wants_default wanted) es) (filter (wants_default wanted) es))) (value_of (e ∷ es) q) q ≡ value_or (map made_default (filter (wants_default wanted) es)) (value_of (e ∷ es) q) q
     past true x = skip_or (made_default e) (map made_default (filter (wants_default wanted) es)) (value_of (e ∷ es) q) q x
     past false x = refl
 
 -- the parameters that differ, set in their order, have the wanted values
-pub changes_set : (now wanted : List Entry) (q : Parameter) → IsCanonical now → IsCanonical wanted → value_or (to_default now wanted ++ to_other now wanted) (value_of now q) q ≡ value_of wanted q
+pub changes_set : (now wanted : List Entry) (q : Parameter) → IsCanonical now → IsCanonical wanted
+    → value_or (to_default now wanted ++ to_other now wanted) (value_of now q) q ≡ value_of wanted q
 changes_set now wanted q hn hw =
     let r : ℕ × ℕ = value_or (to_other now wanted) (value_of now q) q in
     value_or-append (to_default now wanted) (to_other now wanted) (value_of now q) q ∙ (elim (others_set now wanted q hw) [
@@ -188,7 +195,8 @@ changes_set now wanted q hn hw =
     ])
 
 -- each number stands once among them
-pub apart_append : (a b : List Entry) → Apart a → Apart b → ((q : Parameter) → Misses (rank q) a ⊎ Misses (rank q) b) → Apart (a ++ b)
+pub apart_append : (a b : List Entry) → Apart a → Apart b → ((q : Parameter) → Misses (rank q) a ⊎ Misses (rank q) b)
+    → Apart (a ++ b)
 apart_append [] b h k m = k
 apart_append (e ∷ es) b h k m = (
   misses_append (rank e.parameter) es b h.0 (other (m e.parameter)),
@@ -202,21 +210,25 @@ apart_append (e ∷ es) b h k m = (
     other (inl x) = absurd (x.0 refl)
     other (inr x) = x
 
-misses_defaults : (wanted es : List Entry) (q : Parameter) → value_of wanted q ≢ default_value q → Misses (rank q) (map made_default (filter (wants_default wanted) es))
+misses_defaults : (wanted es : List Entry) (q : Parameter) → value_of wanted q ≢ default_value q
+    → Misses (rank q) (map made_default (filter (wants_default wanted) es))
 misses_defaults wanted [] q h = tt
 misses_defaults wanted (e ∷ es) q h = pick (wants_default wanted e) (misses_defaults wanted es q h) refl
   where
-    pick : (b : Bool) → Misses (rank q) (map made_default (filter (wants_default wanted) es)) → wants_default wanted e ≡ b → Misses (rank q) (map made_default (cond b (e ∷ filter (wants_default wanted) es) (filter (wants_default wanted) es)))
+    pick : (b : Bool) → Misses (rank q) (map made_default (filter (wants_default wanted) es)) → wants_default wanted e ≡ b
+        → Misses (rank q) (map made_default (cond b (e ∷ filter (wants_default wanted) es) (filter (wants_default wanted) es)))
     pick false ih k = ih
     pick true ih k = (λ x. h (value_by wanted q e.parameter (sym x) ∙ pair_eq-true (value_of wanted e.parameter) (default_value e.parameter) k ∙ default_by e.parameter q x), ih)
 
-either_misses : (now wanted : List Entry) (q : Parameter) → IsCanonical wanted → Misses (rank q) (to_default now wanted) ⊎ Misses (rank q) (to_other now wanted)
+either_misses : (now wanted : List Entry) (q : Parameter) → IsCanonical wanted
+    → Misses (rank q) (to_default now wanted) ⊎ Misses (rank q) (to_other now wanted)
 either_misses now wanted q h = elim (cases_Bool (pair_eq (value_of wanted q) (default_value q))) [
   | inl t ↦ inr (misses_filter (rank q) (wants_other now) wanted (misses_by_value wanted q h (pair_eq-true (value_of wanted q) (default_value q) t)))
   | inr t ↦ inl (misses_defaults wanted now q (λ x. false≢true (sym t ∙ pair_eq-same (value_of wanted q) (default_value q) x)))
 ]
 
-pub changes_apart : (now wanted : List Entry) → IsCanonical now → IsCanonical wanted → Apart (to_default now wanted ++ to_other now wanted)
+pub changes_apart : (now wanted : List Entry) → IsCanonical now → IsCanonical wanted
+    → Apart (to_default now wanted ++ to_other now wanted)
 changes_apart now wanted hn hw = apart_append (to_default now wanted) (to_other now wanted)
     (apart_default (filter (wants_default wanted) now) (apart_filter (wants_default wanted) now hn)) (apart_filter (wants_other now) wanted hw)
     (λ q. either_misses now wanted q hw)
