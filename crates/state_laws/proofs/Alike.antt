@@ -11,7 +11,8 @@ use Rattle.state_laws.proofs.Pedals.{own_governor, is_free}
 
 -- a stroke on a note of the channel itself
 abbrev struck : ℕ → ℕ → ℕ → ℕ → Note → Note
-struck t before after hold n = let_go t hold (cond (sounds n) (cond (is_pedal_down before) (cond (is_pedal_down after) n (record n { captured = false })) (cond (is_pedal_down after && is_down n) (record n { captured = true }) n)) n)
+struck t before after hold n =
+    let_go t hold (cond (sounds n) (cond (is_pedal_down before) (cond (is_pedal_down after) n (record n { captured = false })) (cond (is_pedal_down after && is_down n) (record n { captured = true }) n)) n)
 
 struck_is : (t c : ℕ) (now wanted : Channel) (n : Note) → n.channel ≡ c
     → pedalled t c now wanted n ≡ struck t (control_of now 66) (control_of wanted 66) (control_of wanted 64) n
@@ -42,7 +43,8 @@ alike_if true false n m x y e h k = absurd cc
 alike_if false true n m x y e h k = absurd cc
 
 alike_ending : (t : ℕ) (n m : Note) → AreAlike n m → AreAlike (ending t n) (ending t m)
-alike_ending t n m h = alike_if (sounds n) (sounds m) (record n { ended = Some t }) (record m { ended = Some t }) n m (ap (λ e. not (is_some e)) h.ended) (record { release = h.release; captured = h.captured; ended = refl }) h
+alike_ending t n m h =
+    alike_if (sounds n) (sounds m) (record n { ended = Some t }) (record m { ended = Some t }) n m (ap (λ e. not (is_some e)) h.ended) (record { release = h.release; captured = h.captured; ended = refl }) h
 
 alike_let_go : (t hold : ℕ) (n m : Note) → AreAlike n m → AreAlike (let_go t hold n) (let_go t hold m)
 alike_let_go t hold n m h =
@@ -53,10 +55,12 @@ alike_let_go t hold n m h =
 alike_struck : (t before after hold : ℕ) (n m : Note) → AreAlike n m
     → AreAlike (struck t before after hold n) (struck t before after hold m)
 alike_struck t before after hold n m h =
-    let turned : Bool → Bool → Note → Note = λ g d x. cond g (cond (is_pedal_down before) (cond (is_pedal_down after) x (record x { captured = false })) (cond d (record x { captured = true }) x)) x in
+    let turned : Bool → Bool → Note → Note =
+    λ g d x. cond g (cond (is_pedal_down before) (cond (is_pedal_down after) x (record x { captured = false })) (cond d (record x { captured = true }) x)) x in
     let s : sounds m ≡ sounds n = ap (λ e. not (is_some e)) h.ended in
     let d : (is_pedal_down after && is_down m) ≡ (is_pedal_down after && is_down n) =
-    ap (λ e. is_pedal_down after && (not (is_some e) && not (is_some m.release))) h.ended ∙ ap (λ r. is_pedal_down after && (not (is_some n.ended) && not (is_some r))) h.release in
+    ap (λ e. is_pedal_down after && (not (is_some e) && not (is_some m.release))) h.ended
+    ∙ ap (λ r. is_pedal_down after && (not (is_some n.ended) && not (is_some r))) h.release in
     let same : turned (sounds m) (is_pedal_down after && is_down m) m ≡ turned (sounds n) (is_pedal_down after && is_down n) m =
     ap (λ g. turned g (is_pedal_down after && is_down m) m) s ∙ ap (λ e. turned (sounds n) e m) d in
     subst (λ (x : Note). AreAlike (struck t before after hold n) (let_go t hold x)) (sym same)

@@ -40,12 +40,15 @@ pressure_pedalled : (t c : ℕ) (now wanted : Channel) (n : Note) → (pedalled 
 pressure_pedalled t c now wanted n = pick (nat_eq n.channel c)
   where
     pick : (b : Bool) → (let x : Note = cond b (let_go t (control_of wanted 64) (sostenuto no_zones c (control_of now 66) (control_of wanted 66) n)) n in x.pressure) ≡ n.pressure
-    pick true = let_go_keeps (λ x. x.pressure) t (control_of wanted 64) (sostenuto no_zones c (control_of now 66) (control_of wanted 66) n) (λ e. refl) ∙ sostenuto_keeps (λ x. x.pressure) no_zones c (control_of now 66) (control_of wanted 66) n (λ d. refl)
+    pick true =
+        let_go_keeps (λ x. x.pressure) t (control_of wanted 64) (sostenuto no_zones c (control_of now 66) (control_of wanted 66) n) (λ e. refl)
+        ∙ sostenuto_keeps (λ x. x.pressure) no_zones c (control_of now 66) (control_of wanted 66) n (λ d. refl)
     pick false = refl
 
 pressed_to : (c : ℕ) (before after : List ℕ) (n : Note) → n.channel ≡ c → sounds n ≡ true
     → n.pressure ≡ get_or before n.key 0 → (pressed c before after n).pressure ≡ get_or after n.key 0
-pressed_to c before after n h s p = pick (nat_eq n.channel c) (sounds n) (nat_eq (get_or before n.key 0) (get_or after n.key 0)) refl (eq-eqb n.channel c h) s
+pressed_to c before after n h s p =
+    pick (nat_eq n.channel c) (sounds n) (nat_eq (get_or before n.key 0) (get_or after n.key 0)) refl (eq-eqb n.channel c h) s
   where
     pick : (a b d : Bool) → nat_eq (get_or before n.key 0) (get_or after n.key 0) ≡ d → a ≡ true → b ≡ true → (let x : Note = cond ((a && b) && not d) (record n { pressure = get_or after n.key 0 }) n in x.pressure) ≡ get_or after n.key 0
     pick true true true e f g = p ∙ eqb-true (get_or before n.key 0) (get_or after n.key 0) e
@@ -59,7 +62,8 @@ on_key_before t c k now wanted n e =
     let f : Note = followed t c now wanted n in
     let ks = keeps t c now wanted n in
     let p = and_parts (is_at c k f) (sounds f) e in
-    let at : is_at c k n ≡ true = ap (λ x. nat_eq x c && nat_eq n.key k) (sym ks.channel) ∙ ap (λ x. nat_eq f.channel c && nat_eq x k) (sym ks.key) ∙ p.0 in
+    let at : is_at c k n ≡ true =
+    ap (λ x. nat_eq x c && nat_eq n.key k) (sym ks.channel) ∙ ap (λ x. nat_eq f.channel c && nat_eq x k) (sym ks.key) ∙ p.0 in
     rw (at) (sounds_before t c now wanted n p.1)
 
 nothing_on : (t c k : ℕ) (now wanted : State) (ns : List Note) → sounding_on c k ns ≡ 0
@@ -128,7 +132,8 @@ pressure_arrives t c k now wanted (n ∷ ns) h one w =
 get_pressure : (ns : List Note) (c i m j : ℕ) → j < m → get_or (key_pressures ns c i m) j 0 ≡ key_pressure ns c (i + j)
 get_pressure ns c i zero j h = absurd (omega (arith, h))
 get_pressure ns c i (suc m) zero h = let e : i ≡ i + 0 = omega arith in ap (key_pressure ns c) e
-get_pressure ns c i (suc m) (suc j) h = let e : suc i + j ≡ i + suc j = omega arith in get_pressure ns c (suc i) m j (omega (arith, h)) ∙ ap (key_pressure ns c) e
+get_pressure ns c i (suc m) (suc j) h =
+    let e : suc i + j ≡ i + suc j = omega arith in get_pressure ns c (suc i) m j (omega (arith, h)) ∙ ap (key_pressure ns c) e
 
 pressures_are : (ns : List Note) (c i m : ℕ) (xs : List ℕ) → length xs ≡ m
     → ((j : ℕ) → j < m → key_pressure ns c (i + j) ≡ get_or xs j 0) → key_pressures ns c i m ≡ xs
@@ -138,7 +143,8 @@ pressures_are ns c i (suc m) [] l h = absurd (omega (arith, l))
 pressures_are ns c i (suc m) (x ∷ xs) l h =
     let e : i ≡ i + 0 = omega arith in
     let one : key_pressure ns c i ≡ x = ap (key_pressure ns c) e ∙ h 0 (omega arith) in
-    let rest : key_pressures ns c (suc i) m ≡ xs = pressures_are ns c (suc i) m xs (omega (arith, l)) (λ j low. (let f : suc i + j ≡ i + suc j = omega arith in ap (key_pressure ns c) f ∙ h (suc j) (omega (arith, low)))) in
+    let rest : key_pressures ns c (suc i) m ≡ xs =
+    pressures_are ns c (suc i) m xs (omega (arith, l)) (λ j low. (let f : suc i + j ≡ i + suc j = omega arith in ap (key_pressure ns c) f ∙ h (suc j) (omega (arith, low)))) in
     ap (λ r. r ∷ key_pressures ns c (suc i) m) one ∙ ap (λ r. x ∷ r) rest
 
 pub arrives : Laws → (m : Music) (t track c : ℕ) (wanted : State) → IsSettled m → m.zones ≡ no_zones → c ≤ 15
@@ -151,14 +157,16 @@ arrives l m t track c wanted s z ok hn hw one w =
     let after : Music = brought_to m t track c now wanted in
     let b = plays l m t track c now wanted s z ok hn hw refl in
     let own : channel_at after c ≡ (last_state now wanted).own =
-    ap (λ r. get_or r c default_channel) b.channels ∙ get_or-set_same m.channels c (apply_all now (bring c now wanted)).own default_channel (omega (arith, s.channels, ok))
+    ap (λ r. get_or r c default_channel) b.channels
+    ∙ get_or-set_same m.channels c (apply_all now (bring c now wanted)).own default_channel (omega (arith, s.channels, ok))
     ∙ ap (λ r. r.own) (bring_reach l c now wanted hn hw) in
     let from : (i : ℕ) → 0 + i ≡ i = λ i. omega arith in
     let each : (j : ℕ) → j < 128 → key_pressure (map (followed t c now wanted) m.notes) c (0 + j) ≡ get_or wanted.keys j 0 = λ j low.
     ap (λ i. key_pressure (map (followed t c now wanted) m.notes) c i) (from j)
     ∙ pressure_arrives t c j now wanted m.notes (sym (get_pressure m.notes c 0 128 j low ∙ ap (key_pressure m.notes c) (from j))) (one j)
     (λ x. subst (λ (ns : List Note). 1 ≤ sounding_on c j ns) b.notes (w j x)) in
-    let keys : key_pressures after.notes c 0 128 ≡ wanted.keys = ap (λ r. key_pressures r c 0 128) b.notes ∙ pressures_are (map (followed t c now wanted) m.notes) c 0 128 wanted.keys hw.keys each in
+    let keys : key_pressures after.notes c 0 128 ≡ wanted.keys =
+    ap (λ r. key_pressures r c 0 128) b.notes ∙ pressures_are (map (followed t c now wanted) m.notes) c 0 128 wanted.keys hw.keys each in
     ap (λ r. let y : State = record { own = record r { selection = nothing_selected }; keys = key_pressures after.notes c 0 128 } in y) own
     ∙ ap (λ r. let y : State = record { own = record wanted.own { selection = nothing_selected }; keys = r } in y) keys
 
@@ -168,7 +176,8 @@ sounding_pressed : (c k : ℕ) (before after : List ℕ) (ns : List Note)
     → sounding_on c k (map (pressed c before after) ns) ≡ sounding_on c k ns
 sounding_pressed c k before after [] = refl
 sounding_pressed c k before after (n ∷ ns) =
-    ap (λ r. cond (on_key c k (pressed c before after n)) 1 0 + r) (sounding_pressed c k before after ns) ∙ ap (λ b. cond b 1 0 + sounding_on c k ns) (same ((nat_eq n.channel c && sounds n) && not (nat_eq (get_or before n.key 0) (get_or after n.key 0))))
+    ap (λ r. cond (on_key c k (pressed c before after n)) 1 0 + r) (sounding_pressed c k before after ns)
+    ∙ ap (λ b. cond b 1 0 + sounding_on c k ns) (same ((nat_eq n.channel c && sounds n) && not (nat_eq (get_or before n.key 0) (get_or after n.key 0))))
   where
     same : (b : Bool) → on_key c k (cond b (record n { pressure = get_or after n.key 0 }) n) ≡ on_key c k n
     same true = refl
@@ -183,14 +192,16 @@ pub arrives_under : Laws → (m : Music) (t track c : ℕ) (wanted : State) → 
     → unselected (state_at (brought_to m t track c (state_at m c) wanted) c) ≡ unselected wanted
 arrives_under l m t track c wanted s z ok hn hw one e f w =
     let now : State = state_at m c in
-    let notes : (brought_to m t track c now wanted).notes ≡ map (pressed c now.keys wanted.keys) m.notes = ends_none l m t track c now wanted s z ok hn hw refl e f in
+    let notes : (brought_to m t track c now wanted).notes ≡ map (pressed c now.keys wanted.keys) m.notes =
+    ends_none l m t track c now wanted s z ok hn hw refl e f in
     arrives l m t track c wanted s z ok hn hw one (λ k x. subst (λ (n : ℕ). 1 ≤ n) (sym (ap (sounding_on c k) notes ∙ sounding_pressed c k now.keys wanted.keys m.notes)) (w k x))
 
 pub arrives_silent : Laws → (m : Music) (t track c : ℕ) (wanted : State) → IsSettled m → m.zones ≡ no_zones → c ≤ 15
     → IsWellFormed (state_at m c) → IsWellFormed wanted
     → ((k : ℕ) → sounding_on c k m.notes ≡ 0) → ((k : ℕ) → get_or wanted.keys k 0 ≡ 0)
     → unselected (state_at (brought_to m t track c (state_at m c) wanted) c) ≡ unselected wanted
-arrives_silent l m t track c wanted s z ok hn hw none zero_ = arrives l m t track c wanted s z ok hn hw (λ k. (let x : sounding_on c k m.notes ≡ 0 = none k in omega (arith, x))) (λ k x. absurd (x (zero_ k)))
+arrives_silent l m t track c wanted s z ok hn hw none zero_ =
+    arrives l m t track c wanted s z ok hn hw (λ k. (let x : sounding_on c k m.notes ≡ 0 = none k in omega (arith, x))) (λ k x. absurd (x (zero_ k)))
 
 -- ---- what comes next
 
@@ -212,7 +223,8 @@ fewer t c d k now wanted (n ∷ ns) = pick (on_key d k (followed t c now wanted 
         let f : Note = followed t c now wanted n in
         let ks = keeps t c now wanted n in
         let p = and_parts (is_at d k f) (sounds f) e in
-        let at : is_at d k n ≡ true = ap (λ x. nat_eq x d && nat_eq n.key k) (sym ks.channel) ∙ ap (λ x. nat_eq f.channel d && nat_eq x k) (sym ks.key) ∙ p.0 in
+        let at : is_at d k n ≡ true =
+        ap (λ x. nat_eq x d && nat_eq n.key k) (sym ks.channel) ∙ ap (λ x. nat_eq f.channel d && nat_eq x k) (sym ks.key) ∙ p.0 in
         rw (at) (sounds_before t c now wanted n p.1)
 
     pick : (a b : Bool) → on_key d k (followed t c now wanted n) ≡ a → on_key d k n ≡ b

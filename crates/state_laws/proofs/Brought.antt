@@ -34,7 +34,8 @@ leads_then t ss c st ns xs ys a b h k =
 -- ---- the controllers
 
 apart_from : (n : ℕ) → n ≢ 64 → n ≢ 66 → (not (nat_eq n 64) && not (nat_eq n 66)) ≡ true
-apart_from n a b = and_from (not (nat_eq n 64)) (not (nat_eq n 66)) (not_from_false (nat_eq n 64) (ne_eqb n 64 a)) (not_from_false (nat_eq n 66) (ne_eqb n 66 b))
+apart_from n a b =
+    and_from (not (nat_eq n 64)) (not (nat_eq n 66)) (not_from_false (nat_eq n 64) (ne_eqb n 64 a)) (not_from_false (nat_eq n 66) (ne_eqb n 66 b))
 
 controls_lead : (t : ℕ) (ss : List Channel) (c : ℕ) (st : State) (ns : List Note) (xs ys : List ℕ) → c < length ss
     → length xs ≡ 120 → length ys ≡ 120 → length st.own.controls ≡ 120
@@ -60,10 +61,12 @@ controls_lead t ss c st ns xs ys low lx ly len hold sost along calm =
     let ua : length (take 1 r) ≡ 1 = omega (arith, length-take 1 r, lr) in
     let ub : length (take 1 s) ≡ 1 = omega (arith, length-take 1 s, ls) in
     let first : bring_controls c 0 xs ys ≡ a ++ (d ++ bring_controls c 65 r s) =
-    ap (λ l. bring_controls c 0 l ys) (split_at 64 xs (omega (arith, lx))) ∙ ap (λ l. bring_controls c 0 (take 64 xs ++ x64 ∷ r) l) (split_at 64 ys (omega (arith, ly)))
+    ap (λ l. bring_controls c 0 l ys) (split_at 64 xs (omega (arith, lx)))
+    ∙ ap (λ l. bring_controls c 0 (take 64 xs ++ x64 ∷ r) l) (split_at 64 ys (omega (arith, ly)))
     ∙ controls_split c 0 64 (take 64 xs) r (take 64 ys) s x64 y64 (ta ∙ sym tb) (omega (arith, ta)) in
     let second : bring_controls c 65 r s ≡ b ++ (e ++ f) =
-    ap (λ l. bring_controls c 65 l s) (split_at 1 r (omega (arith, lr))) ∙ ap (λ l. bring_controls c 65 (take 1 r ++ x66 ∷ drop 2 r) l) (split_at 1 s (omega (arith, ls)))
+    ap (λ l. bring_controls c 65 l s) (split_at 1 r (omega (arith, lr)))
+    ∙ ap (λ l. bring_controls c 65 (take 1 r ++ x66 ∷ drop 2 r) l) (split_at 1 s (omega (arith, ls)))
     ∙ controls_split c 65 66 (take 1 r) (drop 2 r) (take 1 s) (drop 2 s) x66 y66 (ua ∙ sym ub) (omega (arith, ua)) in
     let whole : bring_controls c 0 xs ys ≡ a ++ (d ++ (b ++ (e ++ f))) = first ∙ ap (λ l. a ++ (d ++ l)) second in
     let P : State → Msg → Type 0 = OnlySets c in
@@ -76,8 +79,10 @@ controls_lead t ss c st ns xs ys low lx ly len hold sost along calm =
     let m2 : Along P sd (b ++ (e ++ f)) = along_last P sa d (b ++ (e ++ f)) m1 in
     let m3 : Along P sb (e ++ f) = along_last P sd b (e ++ f) m2 in
     let m4 : Along P se f = along_last P sb e f m3 in
-    let sta : AreStill a = controls_still c 0 (take 64 xs) (take 64 ys) (λ i l. apart_from (0 + i) (λ z. omega (arith, z, l, ta)) (λ z. omega (arith, z, l, ta))) in
-    let stb : AreStill b = controls_still c 65 (take 1 r) (take 1 s) (λ i l. apart_from (65 + i) (λ z. omega (arith, z, l, ua)) (λ z. omega (arith, z, l, ua))) in
+    let sta : AreStill a =
+    controls_still c 0 (take 64 xs) (take 64 ys) (λ i l. apart_from (0 + i) (λ z. omega (arith, z, l, ta)) (λ z. omega (arith, z, l, ta))) in
+    let stb : AreStill b =
+    controls_still c 65 (take 1 r) (take 1 s) (λ i l. apart_from (65 + i) (λ z. omega (arith, z, l, ua)) (λ z. omega (arith, z, l, ua))) in
     let stf : AreStill f = controls_still c 67 (drop 2 r) (drop 2 s) (λ i l. apart_from (67 + i) (λ z. omega (arith, z)) (λ z. omega (arith, z))) in
     let ia = inert t ss c st ns a low (along_first P st a (d ++ (b ++ (e ++ f))) m0) sta (subst (λ (v : ℕ). Calm t ss c v ns) (sym hold) calm) in
     let hd = hold_pedal t ss c sa ns x64 y64 low (ia.pedals.length ∙ len) (ia.pedals.hold ∙ hold) calm in
@@ -87,7 +92,8 @@ controls_lead t ss c st ns xs ys low lx ly len hold sost along calm =
     let hb : control_of sb.own 64 ≡ y64 = ib.pedals.hold ∙ hd.hold in
     let gx : x66 ≡ get_or xs 66 0 = get_or-drop 65 xs 1 0 in
     let gy : y66 ≡ get_or ys 66 0 = get_or-drop 65 ys 1 0 in
-    let he = sostenuto_pedal t ss c sb n2 x66 y66 low (ib.pedals.sostenuto ∙ hd.sostenuto ∙ ia.pedals.sostenuto ∙ sost ∙ sym gx) (subst (λ (v : ℕ). Calm t ss c v n2) (sym hb) c2) in
+    let he =
+    sostenuto_pedal t ss c sb n2 x66 y66 low (ib.pedals.sostenuto ∙ hd.sostenuto ∙ ia.pedals.sostenuto ∙ sost ∙ sym gx) (subst (λ (v : ℕ). Calm t ss c v n2) (sym hb) c2) in
     let n3 : List Note = map (settled_by t ss c (control_of sb.own 64)) (map (sostenuto no_zones c x66 y66) n2) in
     let c3 : Calm t ss c (control_of sb.own 64) n3 = calm_after t ss c (control_of sb.own 64) (map (sostenuto no_zones c x66 y66) n2) in
     let if_ = inert t ss c se n3 f low m4 stf (subst (λ (v : ℕ). Calm t ss c v n3) (sym he.1) c3) in
@@ -131,7 +137,8 @@ keys_lead t ss c k st ns (x ∷ xs) (y ∷ ys) low h =
     let one : List Note = map (with_pressure c k y) ns in
     let calm : Calm t ss c v one = calm_pressures t ss c v c k y ns h in
     let heard : settle t (act t (KeyPressure c k y) (music_of ss c st.own ns)) ≡ music_of ss c st.own one =
-    one_step t ss c st ns (KeyPressure c k y) low (record { channel = refl; sets = refl }) ∙ ap (λ l. music_of ss c st.own l) (calm_map t ss c v one calm) in
+    one_step t ss c st ns (KeyPressure c k y) low (record { channel = refl; sets = refl })
+    ∙ ap (λ l. music_of ss c st.own l) (calm_map t ss c v one calm) in
     pick (nat_eq x y) heard (keys_lead t ss c (k + 1) st ns xs ys low h) (keys_lead t ss c (k + 1) (apply_state st (KeyPressure c k y)) one xs ys low calm)
   where
     pick : (b : Bool)
@@ -210,19 +217,26 @@ bring_leads l t ss c now wanted ns low ok hn hw calm =
     let a2 : Along P now (v ++ k) = along_first P now (v ++ k) p a3 in
     let hold : ℕ = control_of wanted.own 64 in
     let sv : State = apply_all now v in
-    let iv = inert t ss c now ns v low (along_first P now v k a2) (voice_still c wanted.own.voice (voice_eq now.own.voice wanted.own.voice) (nat_eq (get_or now.own.controls 0 0) wanted.own.voice.high) (nat_eq (get_or now.own.controls 32 0) wanted.own.voice.low)) calm in
+    let iv =
+    inert t ss c now ns v low (along_first P now v k a2) (voice_still c wanted.own.voice (voice_eq now.own.voice wanted.own.voice) (nat_eq (get_or now.own.controls 0 0) wanted.own.voice.high) (nat_eq (get_or now.own.controls 32 0) wanted.own.voice.low)) calm in
     let h64 : control_of sv.own 64 ≡ get_or xs 64 0 = ap (λ s. control_of s.own 64) zero_ in
     let h66 : control_of sv.own 66 ≡ get_or xs 66 0 = ap (λ s. control_of s.own 66) zero_ in
     let c1 : Calm t ss c (get_or xs 64 0) ns = subst (λ (x : ℕ). Calm t ss c x ns) (sym iv.pedals.hold ∙ h64) calm in
-    let lk = controls_lead t ss c sv ns xs ys low (sized_voice now.own.controls now.own.voice wanted.own.voice (sized now hn)).length hw.controls (iv.pedals.length ∙ hn.controls) h64 h66 (along_last P now v k a2) c1 in
+    let lk =
+    controls_lead t ss c sv ns xs ys low (sized_voice now.own.controls now.own.voice wanted.own.voice (sized now hn)).length hw.controls (iv.pedals.length ∙ hn.controls) h64 h66 (along_last P now v k a2) c1 in
     let n1 : List Note = map (settled_by t ss c hold) (map (sostenuto no_zones c (get_or xs 66 0) (control_of wanted.own 66)) ns) in
     let calm1 : Calm t ss c hold n1 = calm_after t ss c hold (map (sostenuto no_zones c (get_or xs 66 0) (control_of wanted.own 66)) ns) in
-    let at : (s : State) → control_of s.own 64 ≡ hold → Calm t ss c (control_of s.own 64) n1 = λ s e. subst (λ (x : ℕ). Calm t ss c x n1) (sym e) calm1 in
-    let ip = inert t ss c (apply_all now (v ++ k)) n1 p low (along_last P now (v ++ k) p a3) (closed_still c (bring_each c now.own.params (changed now wanted)) (each_still c now.own.params (changed now wanted))) (at (apply_all now (v ++ k)) (ap (λ s. control_of s.own 64) one)) in
-    let iw = inert t ss c (apply_all now ((v ++ k) ++ p)) n1 w low (along_last P now ((v ++ k) ++ p) w a4) (differs_still now.own.pressure wanted.own.pressure (Pressure c wanted.own.pressure) refl) (at (apply_all now ((v ++ k) ++ p)) (ap (λ s. control_of s.own 64) two)) in
-    let ib = inert t ss c (apply_all now (((v ++ k) ++ p) ++ w)) n1 b low (along_last P now (((v ++ k) ++ p) ++ w) b a5) (differs_still now.own.bend wanted.own.bend (Bend c wanted.own.bend) refl) (at (apply_all now (((v ++ k) ++ p) ++ w)) (ap (λ s. control_of s.own 64) three)) in
+    let at : (s : State) → control_of s.own 64 ≡ hold → Calm t ss c (control_of s.own 64) n1 =
+    λ s e. subst (λ (x : ℕ). Calm t ss c x n1) (sym e) calm1 in
+    let ip =
+    inert t ss c (apply_all now (v ++ k)) n1 p low (along_last P now (v ++ k) p a3) (closed_still c (bring_each c now.own.params (changed now wanted)) (each_still c now.own.params (changed now wanted))) (at (apply_all now (v ++ k)) (ap (λ s. control_of s.own 64) one)) in
+    let iw =
+    inert t ss c (apply_all now ((v ++ k) ++ p)) n1 w low (along_last P now ((v ++ k) ++ p) w a4) (differs_still now.own.pressure wanted.own.pressure (Pressure c wanted.own.pressure) refl) (at (apply_all now ((v ++ k) ++ p)) (ap (λ s. control_of s.own 64) two)) in
+    let ib =
+    inert t ss c (apply_all now (((v ++ k) ++ p) ++ w)) n1 b low (along_last P now (((v ++ k) ++ p) ++ w) b a5) (differs_still now.own.bend wanted.own.bend (Bend c wanted.own.bend) refl) (at (apply_all now (((v ++ k) ++ p) ++ w)) (ap (λ s. control_of s.own 64) three)) in
     let n2 : List Note = map (press c 0 now.keys wanted.keys) n1 in
-    let lks = keys_lead t ss c 0 (apply_all now ((((v ++ k) ++ p) ++ w) ++ b)) n1 now.keys wanted.keys low (at (apply_all now ((((v ++ k) ++ p) ++ w) ++ b)) (ap (λ s. control_of s.own 64) four)) in
+    let lks =
+    keys_lead t ss c 0 (apply_all now ((((v ++ k) ++ p) ++ w) ++ b)) n1 now.keys wanted.keys low (at (apply_all now ((((v ++ k) ++ p) ++ w) ++ b)) (ap (λ s. control_of s.own 64) four)) in
     let led : Leads t ss c now ns (brought c now wanted) n2 =
     leads_then t ss c now ns n1 n2 ((((v ++ k) ++ p) ++ w) ++ b) ks
     (leads_then t ss c now ns n1 n1 (((v ++ k) ++ p) ++ w) b
@@ -231,7 +245,8 @@ bring_leads l t ss c now wanted ns low ok hn hw calm =
     (leads_then t ss c now ns ns n1 v k iv.music lk) ip.music) iw.music) ib.music) lks in
     let x66 : get_or xs 66 0 ≡ control_of now.own 66 = sym h66 ∙ iv.pedals.sostenuto in
     let strokes : n1 ≡ map (pedalled t c now.own wanted.own) ns =
-    ap (λ x. map (settled_by t ss c hold) (map (sostenuto no_zones c x (control_of wanted.own 66)) ns)) x66 ∙ strokes_are t ss c now.own wanted.own ns calm in
+    ap (λ x. map (settled_by t ss c hold) (map (sostenuto no_zones c x (control_of wanted.own 66)) ns)) x66
+    ∙ strokes_are t ss c now.own wanted.own ns calm in
     subst (λ (ms : List Msg). Leads t ss c now ns ms (map (press c 0 now.keys wanted.keys) (map (pedalled t c now.own wanted.own) ns))) (sym (bring_is c now wanted hn))
     (led ∙ ap (λ x. music_of ss c (apply_all now (brought c now wanted)).own (map (press c 0 now.keys wanted.keys) x)) strokes)
 
@@ -243,7 +258,8 @@ plays l m t track c now wanted s z ok hn hw own =
     let low : c < length ss = omega (arith, s.channels, ok) in
     let put : set ss c now.own ≡ ss = ap (λ x. set ss c x) own ∙ set-get_or ss c default_channel in
     let start : m ≡ music_of ss c now.own m.notes =
-    ap (λ x. let r : Music = record { channels = ss; zones = x; notes = m.notes } in r) z ∙ ap (λ x. let r : Music = record { channels = x; zones = no_zones; notes = m.notes } in r) (sym put) in
+    ap (λ x. let r : Music = record { channels = ss; zones = x; notes = m.notes } in r) z
+    ∙ ap (λ x. let r : Music = record { channels = x; zones = no_zones; notes = m.notes } in r) (sym put) in
     let settled : map (settle_note (set ss c now.own) no_zones t) m.notes ≡ m.notes =
     ap (λ x. map (settle_note x no_zones t) m.notes) put ∙ ap (λ x. map (settle_note ss x t) m.notes) (sym z) ∙ s.notes t in
     let calm : Calm t ss c (control_of now.own 64) m.notes =

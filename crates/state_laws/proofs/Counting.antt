@@ -68,9 +68,11 @@ differing_set (x ∷ xs) (y ∷ ys) (suc i) v = pick (nat_eq x y) (differing_set
 
 differing_voice : (cs ys : List ℕ) (now v : Voice) → differing (voice_controls cs now v) ys ≤ 2 + differing cs ys
 differing_voice cs ys now v =
-    let one : differing (high_bank cs v.high) ys ≤ 1 + differing cs ys = cond_both (nat_eq (get_or cs 0 0) v.high) cs (set cs 0 v.high) (λ (l : List ℕ). differing l ys ≤ 1 + differing cs ys) (λ _. omega arith) (λ _. differing_set cs ys 0 v.high) in
+    let one : differing (high_bank cs v.high) ys ≤ 1 + differing cs ys =
+    cond_both (nat_eq (get_or cs 0 0) v.high) cs (set cs 0 v.high) (λ (l : List ℕ). differing l ys ≤ 1 + differing cs ys) (λ _. omega arith) (λ _. differing_set cs ys 0 v.high) in
     let more = differing_set (high_bank cs v.high) ys 32 v.low in
-    let two : differing (banks cs v) ys ≤ 2 + differing cs ys = cond_both (nat_eq (get_or cs 32 0) v.low) (high_bank cs v.high) (set (high_bank cs v.high) 32 v.low) (λ (l : List ℕ). differing l ys ≤ 2 + differing cs ys) (λ _. omega (arith, one)) (λ _. omega (arith, one, more)) in
+    let two : differing (banks cs v) ys ≤ 2 + differing cs ys =
+    cond_both (nat_eq (get_or cs 32 0) v.low) (high_bank cs v.high) (set (high_bank cs v.high) 32 v.low) (λ (l : List ℕ). differing l ys ≤ 2 + differing cs ys) (λ _. omega (arith, one)) (λ _. omega (arith, one, more)) in
     cond_both (voice_eq now v) cs (banks cs v) (λ (l : List ℕ). differing l ys ≤ 2 + differing cs ys) (λ _. omega arith) (λ _. two)
 
 length_parameter_by : (c : ℕ) (b x y : Bool) (h l v w : ℕ)
@@ -85,7 +87,8 @@ length_parameter_by c false false true h l v w = omega arith
 length_parameter_by c false false false h l v w = omega arith
 
 length_parameter : (c : ℕ) (v : ℕ × ℕ) (e : Entry) → length (bring_parameter c v e) ≤ 4
-length_parameter c v e = length_parameter_by c e.parameter.registered (nat_eq v.0 e.value.0) (nat_eq v.1 e.value.1) e.parameter.high e.parameter.low e.value.0 e.value.1
+length_parameter c v e =
+    length_parameter_by c e.parameter.registered (nat_eq v.0 e.value.0) (nat_eq v.1 e.value.1) e.parameter.high e.parameter.low e.value.0 e.value.1
 
 length_each : (c : ℕ) (now es : List Entry) → length (bring_each c now es) ≤ 4 * length es
 length_each c now [] = omega arith
@@ -128,7 +131,8 @@ length_bring c k p now wanted h hk hp =
     let w : List Msg = where_differs now.own.pressure wanted.own.pressure (Pressure c wanted.own.pressure) in
     let b : List Msg = where_differs now.own.bend wanted.own.bend (Bend c wanted.own.bend) in
     let ks : List Msg = bring_keys c 0 now.keys wanted.keys in
-    let lv : length v ≤ 3 = length_voice_by c wanted.own.voice (voice_eq now.own.voice wanted.own.voice) (nat_eq (get_or now.own.controls 0 0) wanted.own.voice.high) (nat_eq (get_or now.own.controls 32 0) wanted.own.voice.low) in
+    let lv : length v ≤ 3 =
+    length_voice_by c wanted.own.voice (voice_eq now.own.voice wanted.own.voice) (nat_eq (get_or now.own.controls 0 0) wanted.own.voice.high) (nat_eq (get_or now.own.controls 32 0) wanted.own.voice.low) in
     let lc = length_controls c 0 (first_state now wanted).own.controls wanted.own.controls in
     let le = length_each c now.own.params (changed now wanted) in
     let ll = length_closed c each in
@@ -140,14 +144,16 @@ length_bring c k p now wanted h hk hp =
     let a3 = length-append ((v ++ cs) ++ closed c each) w in
     let a4 = length-append (((v ++ cs) ++ closed c each) ++ w) b in
     let a5 = length-append ((((v ++ cs) ++ closed c each) ++ w) ++ b) ks in
-    let total : length (brought c now wanted) ≤ 7 + k + 4 * p + differing now.keys wanted.keys = omega (arith, lv, lc, hk, hp, le, ll, lw, lb, lk, a1, a2, a3, a4, a5) in
+    let total : length (brought c now wanted) ≤ 7 + k + 4 * p + differing now.keys wanted.keys =
+    omega (arith, lv, lc, hk, hp, le, ll, lw, lb, lk, a1, a2, a3, a4, a5) in
     subst (λ (ms : List Msg). length ms ≤ 7 + k + 4 * p + differing now.keys wanted.keys) (sym (bring_is c now wanted h)) total
 
 pub few : (c : ℕ) (now wanted : State) → IsWellFormed now → IsWellFormed wanted
     → length (bring c now wanted) ≤ 9 + differing now.own.controls wanted.own.controls + 4 * differing_params now.own.params wanted.own.params + differing now.keys wanted.keys
 few c now wanted hn hw =
     let k : ℕ = 2 + differing now.own.controls wanted.own.controls in
-    let n = length_bring c k (differing_params now.own.params wanted.own.params) now wanted hn (differing_voice now.own.controls wanted.own.controls now.own.voice wanted.own.voice) (omega (arith, length_changed now wanted)) in
+    let n =
+    length_bring c k (differing_params now.own.params wanted.own.params) now wanted hn (differing_voice now.own.controls wanted.own.controls now.own.voice wanted.own.voice) (omega (arith, length_changed now wanted)) in
     omega (arith, n)
 
 -- ---- at most
@@ -228,7 +234,8 @@ few_uncounted [] h = omega arith
 few_uncounted (e ∷ es) h =
     let ih = few_uncounted es h.1 in
     let p : Parameter = e.parameter in
-    let one = one_of (rank p) (not_special p 3 h.0.small (omega arith) refl h.0.settable) (not_special p 6 h.0.small (omega arith) refl h.0.settable) in
+    let one =
+    one_of (rank p) (not_special p 3 h.0.small (omega arith) refl h.0.settable) (not_special p 6 h.0.small (omega arith) refl h.0.settable) in
     let step : (b : Bool) → cond b (suc (count es)) (count es) ≡ cond b 1 0 + count es = elim [ true ↦ omega arith | false ↦ omega arith ] in
     let sum : count (e ∷ es) ≡ cond (counts e) 1 0 + count es = count_one e es ∙ step (counts e) in
     omega (arith, ih, one, sum)
@@ -322,7 +329,8 @@ each_free : (c d : ℕ) (now es : List Entry) → length (bring_each c now es) �
 each_free c d now [] = refl
 each_free c d now (e ∷ es) =
     let v : ℕ × ℕ = value_of now e.parameter in
-    let one = parameter_free c d e.parameter.registered (nat_eq v.0 e.value.0) (nat_eq v.1 e.value.1) e.parameter.high e.parameter.low e.value.0 e.value.1 in
+    let one =
+    parameter_free c d e.parameter.registered (nat_eq v.0 e.value.0) (nat_eq v.1 e.value.1) e.parameter.high e.parameter.low e.value.0 e.value.1 in
     let a = length-append (bring_parameter c v e) (bring_each c now es) in
     let b = length-append (bring_parameter d v e) (bring_each d now es) in
     let rest = each_free c d now es in
@@ -363,14 +371,19 @@ as_many c d now wanted =
     let xd : List ℕ = (apply_all now vd).own.controls in
     let es : List Entry = changed now wanted in
     let ps : List Entry = now.own.params in
-    let free = voice_free c d now wanted.own.voice (voice_eq now.own.voice wanted.own.voice) (nat_eq (get_or now.own.controls 0 0) wanted.own.voice.high) (nat_eq (get_or now.own.controls 32 0) wanted.own.voice.low) in
+    let free =
+    voice_free c d now wanted.own.voice (voice_eq now.own.voice wanted.own.voice) (nat_eq (get_or now.own.controls 0 0) wanted.own.voice.high) (nat_eq (get_or now.own.controls 32 0) wanted.own.voice.low) in
     let k : length (bring_controls c 0 xc wanted.own.controls) ≡ length (bring_controls d 0 xd wanted.own.controls) =
-    length_controls c 0 xc wanted.own.controls ∙ ap (λ x. differing x wanted.own.controls) free.1 ∙ sym (length_controls d 0 xd wanted.own.controls) in
+    length_controls c 0 xc wanted.own.controls ∙ ap (λ x. differing x wanted.own.controls) free.1
+    ∙ sym (length_controls d 0 xd wanted.own.controls) in
     let p = closed_free c d (bring_each c ps es) (bring_each d ps es) (each_free c d ps es) in
     let w = differs_free now.own.pressure wanted.own.pressure (Pressure c wanted.own.pressure) (Pressure d wanted.own.pressure) in
     let b = differs_free now.own.bend wanted.own.bend (Bend c wanted.own.bend) (Bend d wanted.own.bend) in
-    let ks : length (bring_keys c 0 now.keys wanted.keys) ≡ length (bring_keys d 0 now.keys wanted.keys) = length_keys c 0 now.keys wanted.keys ∙ sym (length_keys d 0 now.keys wanted.keys) in
-    let lc = length_groups vc (bring_controls c 0 xc wanted.own.controls) (closed c (bring_each c ps es)) (where_differs now.own.pressure wanted.own.pressure (Pressure c wanted.own.pressure)) (where_differs now.own.bend wanted.own.bend (Bend c wanted.own.bend)) (bring_keys c 0 now.keys wanted.keys) in
-    let ld = length_groups vd (bring_controls d 0 xd wanted.own.controls) (closed d (bring_each d ps es)) (where_differs now.own.pressure wanted.own.pressure (Pressure d wanted.own.pressure)) (where_differs now.own.bend wanted.own.bend (Bend d wanted.own.bend)) (bring_keys d 0 now.keys wanted.keys) in
+    let ks : length (bring_keys c 0 now.keys wanted.keys) ≡ length (bring_keys d 0 now.keys wanted.keys) =
+    length_keys c 0 now.keys wanted.keys ∙ sym (length_keys d 0 now.keys wanted.keys) in
+    let lc =
+    length_groups vc (bring_controls c 0 xc wanted.own.controls) (closed c (bring_each c ps es)) (where_differs now.own.pressure wanted.own.pressure (Pressure c wanted.own.pressure)) (where_differs now.own.bend wanted.own.bend (Bend c wanted.own.bend)) (bring_keys c 0 now.keys wanted.keys) in
+    let ld =
+    length_groups vd (bring_controls d 0 xd wanted.own.controls) (closed d (bring_each d ps es)) (where_differs now.own.pressure wanted.own.pressure (Pressure d wanted.own.pressure)) (where_differs now.own.bend wanted.own.bend (Bend d wanted.own.bend)) (bring_keys d 0 now.keys wanted.keys) in
     let v = free.0 in
     omega (arith, lc, ld, v, k, p, w, b, ks)

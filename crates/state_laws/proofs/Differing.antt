@@ -56,13 +56,15 @@ differ_others now wanted (e ∷ es) h = pick (pair_eq (value_of now e.parameter)
     pick false f r = (λ x. false≢true (sym f ∙ pair_eq-same (value_of now e.parameter) e.value (x ∙ h.0)), r)
 
 pub changes_differ : (now wanted : List Entry) → IsCanonical now → IsCanonical wanted → Differ now wanted (changes now wanted)
-changes_differ now wanted hn hw = differ_append now wanted (to_default now wanted) (to_other now wanted) (differ_defaults now wanted now (sticks_all now hn)) (differ_others now wanted wanted (listed_all wanted hw))
+changes_differ now wanted hn hw =
+    differ_append now wanted (to_default now wanted) (to_other now wanted) (differ_defaults now wanted now (sticks_all now hn)) (differ_others now wanted wanted (listed_all wanted hw))
 
 -- one that doesn't differ isn't among them
 pub same_missed : (now wanted es : List Entry) (q : Parameter) → Differ now wanted es → value_of now q ≡ value_of wanted q
     → Misses (rank q) es
 same_missed now wanted [] q h e = tt
-same_missed now wanted (x ∷ es) q h e = (λ r. h.0 (value_by now x.parameter q r ∙ e ∙ value_by wanted q x.parameter (sym r)), same_missed now wanted es q h.1 e)
+same_missed now wanted (x ∷ es) q h e =
+    (λ r. h.0 (value_by now x.parameter q r ∙ e ∙ value_by wanted q x.parameter (sym r)), same_missed now wanted es q h.1 e)
 
 none_of : (q : Parameter) (es : List Entry) → Misses (rank q) es → entries_of q es ≡ 0
 none_of q [] h = refl
@@ -70,7 +72,8 @@ none_of q (e ∷ es) h = let ih : entries_of q es ≡ 0 = none_of q es h.1 in rw
 
 missed_by : (q : Parameter) (es : List Entry) → entries_of q es ≡ 0 → Misses (rank q) es
 missed_by q [] h = tt
-missed_by q (e ∷ es) h = (λ x. first (nat_eq (rank e.parameter) (rank q)) (eq-eqb (rank e.parameter) (rank q) x) h, missed_by q es (rest (nat_eq (rank e.parameter) (rank q)) h))
+missed_by q (e ∷ es) h =
+    (λ x. first (nat_eq (rank e.parameter) (rank q)) (eq-eqb (rank e.parameter) (rank q) x) h, missed_by q es (rest (nat_eq (rank e.parameter) (rank q)) h))
   where
     first : (b : Bool) → b ≡ true → cond b 1 0 + entries_of q es ≡ 0 → ⊥
     first true f g = omega (arith, g)
@@ -92,7 +95,8 @@ changes_those now wanted p hn hw = pick (pair_eq (value_of now.own.params p) (va
   where
     pick : (b : Bool) → pair_eq (value_of now.own.params p) (value_of wanted.own.params p) ≡ b
         → entries_of p (changed now wanted) ≡ cond b 0 1
-    pick true e = none_of p (changed now wanted) (same_missed now.own.params wanted.own.params (changed now wanted) p (changes_differ now.own.params wanted.own.params hn.canonical hw.canonical) (pair_eq-true (value_of now.own.params p) (value_of wanted.own.params p) e))
+    pick true e =
+        none_of p (changed now wanted) (same_missed now.own.params wanted.own.params (changed now wanted) p (changes_differ now.own.params wanted.own.params hn.canonical hw.canonical) (pair_eq-true (value_of now.own.params p) (value_of wanted.own.params p) e))
     pick false e =
         let some : entries_of p (changed now wanted) ≢ 0 = λ z. false≢true (sym e ∙ pair_eq-same (value_of now.own.params p) (value_of wanted.own.params p)
         (sym (value_or-missed (changed now wanted) (value_of now.own.params p) p (missed_by p (changed now wanted) z)) ∙ changes_set now.own.params wanted.own.params p hn.canonical hw.canonical)) in
@@ -129,7 +133,8 @@ one_changed now wanted (e ∷ es) p sp h a d o v x =
     let q : e.parameter ≡ p = same_rank e.parameter p h.0.small sp r in
     let w : e.value ≡ value_of wanted p = sym (found_or e es (value_of now p) p r) ∙ v in
     let rest : es ≡ [] = none es a.0 d.1 r in
-    ap (λ y. record e { parameter = y } ∷ es) q ∙ ap (λ y. record { parameter = p; value = y } ∷ es) w ∙ ap (λ l. record { parameter = p; value = value_of wanted p } ∷ l) rest
+    ap (λ y. record e { parameter = y } ∷ es) q ∙ ap (λ y. record { parameter = p; value = y } ∷ es) w
+    ∙ ap (λ l. record { parameter = p; value = value_of wanted p } ∷ l) rest
   where
     same : (f : Entry) → value_of now f.parameter ≢ value_of wanted f.parameter → rank f.parameter ≡ rank p
     same f n = elim (cases_eq (rank f.parameter) (rank p)) [

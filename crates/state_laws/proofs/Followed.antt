@@ -25,8 +25,10 @@ followed t c now wanted n = pressed c now.keys wanted.keys (pedalled t c now.own
 pub other_note : (t c : ℕ) (now wanted : State) (n : Note) → n.channel ≢ c → followed t c now wanted n ≡ n
 other_note t c now wanted n h =
     let e : nat_eq n.channel c ≡ false = ne_eqb n.channel c h in
-    let p : pedalled t c now.own wanted.own n ≡ n = ap (λ b. cond b (let_go t (control_of wanted.own 64) (sostenuto no_zones c (control_of now.own 66) (control_of wanted.own 66) n)) n) e in
-    ap (pressed c now.keys wanted.keys) p ∙ ap (λ b. cond b (record n { pressure = get_or wanted.keys n.key 0 }) n) (and_left (nat_eq n.channel c && sounds n) (not (nat_eq (get_or now.keys n.key 0) (get_or wanted.keys n.key 0))) (and_left (nat_eq n.channel c) (sounds n) e))
+    let p : pedalled t c now.own wanted.own n ≡ n =
+    ap (λ b. cond b (let_go t (control_of wanted.own 64) (sostenuto no_zones c (control_of now.own 66) (control_of wanted.own 66) n)) n) e in
+    ap (pressed c now.keys wanted.keys) p
+    ∙ ap (λ b. cond b (record n { pressure = get_or wanted.keys n.key 0 }) n) (and_left (nat_eq n.channel c && sounds n) (not (nat_eq (get_or now.keys n.key 0) (get_or wanted.keys n.key 0))) (and_left (nat_eq n.channel c) (sounds n) e))
 
 -- one that has ended isn't either
 pub ended_note : (t c : ℕ) (now wanted : State) (n : Note) → sounds n ≡ false → followed t c now wanted n ≡ n
@@ -34,10 +36,12 @@ ended_note t c now wanted n e =
     let a : ℕ = control_of now.own 66 in
     let b : ℕ = control_of wanted.own 66 in
     let h : ℕ = control_of wanted.own 64 in
-    let s : sostenuto no_zones c a b n ≡ n = ap (λ x. cond x (cond (is_pedal_down a) (cond (is_pedal_down b) n (record n { captured = false })) (cond (is_pedal_down b && is_down n) (record n { captured = true }) n)) n) (and_right (nat_eq (governor no_zones n.channel) c) (sounds n) e) in
+    let s : sostenuto no_zones c a b n ≡ n =
+    ap (λ x. cond x (cond (is_pedal_down a) (cond (is_pedal_down b) n (record n { captured = false })) (cond (is_pedal_down b && is_down n) (record n { captured = true }) n)) n) (and_right (nat_eq (governor no_zones n.channel) c) (sounds n) e) in
     let g : let_go t h n ≡ n = same (is_free h n) (ending t n) n (ap (λ x. cond x (record n { ended = Some t }) n) e) in
     let p : pedalled t c now.own wanted.own n ≡ n = same (nat_eq n.channel c) (let_go t h (sostenuto no_zones c a b n)) n (ap (let_go t h) s ∙ g) in
-    ap (pressed c now.keys wanted.keys) p ∙ ap (λ x. cond x (record n { pressure = get_or wanted.keys n.key 0 }) n) (and_left (nat_eq n.channel c && sounds n) (not (nat_eq (get_or now.keys n.key 0) (get_or wanted.keys n.key 0))) (and_right (nat_eq n.channel c) (sounds n) e))
+    ap (pressed c now.keys wanted.keys) p
+    ∙ ap (λ x. cond x (record n { pressure = get_or wanted.keys n.key 0 }) n) (and_left (nat_eq n.channel c && sounds n) (not (nat_eq (get_or now.keys n.key 0) (get_or wanted.keys n.key 0))) (and_right (nat_eq n.channel c) (sounds n) e))
   where
     same : (b : Bool) (m n : Note) → m ≡ n → cond b m n ≡ n
     same true m n e = e
@@ -80,10 +84,12 @@ keeps_pedalled t c now wanted n =
     keeps_cond (nat_eq n.channel c) n (let_go t (control_of wanted 64) s) n (keeps_then n s (let_go t (control_of wanted 64) s) (keeps_sostenuto no_zones c (control_of now 66) (control_of wanted 66) n) (keeps_let_go t (control_of wanted 64) s)) (keeps_same n)
 
 keeps_pressed : (c : ℕ) (before after : List ℕ) (n : Note) → Keeps n (pressed c before after n)
-keeps_pressed c before after n = keeps_cond ((nat_eq n.channel c && sounds n) && not (nat_eq (get_or before n.key 0) (get_or after n.key 0))) n (record n { pressure = get_or after n.key 0 }) n (record { channel = refl; key = refl }) (keeps_same n)
+keeps_pressed c before after n =
+    keeps_cond ((nat_eq n.channel c && sounds n) && not (nat_eq (get_or before n.key 0) (get_or after n.key 0))) n (record n { pressure = get_or after n.key 0 }) n (record { channel = refl; key = refl }) (keeps_same n)
 
 pub keeps : (t c : ℕ) (now wanted : State) (n : Note) → Keeps n (followed t c now wanted n)
-keeps t c now wanted n = keeps_then n (pedalled t c now.own wanted.own n) (followed t c now wanted n) (keeps_pedalled t c now.own wanted.own n) (keeps_pressed c now.keys wanted.keys (pedalled t c now.own wanted.own n))
+keeps t c now wanted n =
+    keeps_then n (pedalled t c now.own wanted.own n) (followed t c now wanted n) (keeps_pedalled t c now.own wanted.own n) (keeps_pressed c now.keys wanted.keys (pedalled t c now.own wanted.own n))
 
 -- ---- the other channels
 
@@ -96,11 +102,13 @@ other_pressure t c d k now wanted (n ∷ ns) h = elim (cases_eq n.channel c) [
       let x : nat_eq f.channel d ≡ false = ne_eqb f.channel d (λ y. h (sym y ∙ (keeps t c now wanted n).channel ∙ e)) in
       let y : nat_eq n.channel d ≡ false = ne_eqb n.channel d (λ z. h (sym z ∙ e)) in
       past f (map (followed t c now wanted) ns) x ∙ other_pressure t c d k now wanted ns h ∙ sym (past n ns y)
-  | inr e ↦ ap (λ m. key_pressure (m ∷ map (followed t c now wanted) ns) d k) (other_note t c now wanted n e) ∙ ap (λ r. cond (is_at d k n && sounds n) n.pressure r) (other_pressure t c d k now wanted ns h)
+  | inr e ↦ ap (λ m. key_pressure (m ∷ map (followed t c now wanted) ns) d k) (other_note t c now wanted n e)
+  ∙ ap (λ r. cond (is_at d k n && sounds n) n.pressure r) (other_pressure t c d k now wanted ns h)
 ]
   where
     past : (m : Note) (ms : List Note) → nat_eq m.channel d ≡ false → key_pressure (m ∷ ms) d k ≡ key_pressure ms d k
-    past m ms e = ap (λ b. cond b m.pressure (key_pressure ms d k)) (and_left (is_at d k m) (sounds m) (and_left (nat_eq m.channel d) (nat_eq m.key k) e))
+    past m ms e =
+        ap (λ b. cond b m.pressure (key_pressure ms d k)) (and_left (is_at d k m) (sounds m) (and_left (nat_eq m.channel d) (nat_eq m.key k) e))
 
 pressures_same : (xs bs : List Note) (d i m : ℕ) → ((k : ℕ) → key_pressure xs d k ≡ key_pressure bs d k)
     → key_pressures xs d i m ≡ key_pressures bs d i m
@@ -113,10 +121,13 @@ pub leaves_others : Laws → (m : Music) (t track c d : ℕ) (now wanted : State
 leaves_others l m t track c d now wanted s z ok hn hw own h =
     let b = plays l m t track c now wanted s z ok hn hw own in
     let x : Music = brought_to m t track c now wanted in
-    let one : channel_at x d ≡ channel_at m d = ap (λ r. get_or r d default_channel) b.channels ∙ get_or-set_other m.channels c d (apply_all now (bring c now wanted)).own default_channel h in
+    let one : channel_at x d ≡ channel_at m d =
+    ap (λ r. get_or r d default_channel) b.channels ∙ get_or-set_other m.channels c d (apply_all now (bring c now wanted)).own default_channel h in
     let two : key_pressures x.notes d 0 128 ≡ key_pressures m.notes d 0 128 =
-    ap (λ r. key_pressures r d 0 128) b.notes ∙ pressures_same (map (followed t c now wanted) m.notes) m.notes d 0 128 (λ k. other_pressure t c d k now wanted m.notes h) in
-    ap (λ r. let y : State = record { own = r; keys = key_pressures x.notes d 0 128 } in y) one ∙ ap (λ r. let y : State = record { own = channel_at m d; keys = r } in y) two
+    ap (λ r. key_pressures r d 0 128) b.notes
+    ∙ pressures_same (map (followed t c now wanted) m.notes) m.notes d 0 128 (λ k. other_pressure t c d k now wanted m.notes h) in
+    ap (λ r. let y : State = record { own = r; keys = key_pressures x.notes d 0 128 } in y) one
+    ∙ ap (λ r. let y : State = record { own = channel_at m d; keys = r } in y) two
 
 -- ---- a silent channel
 
@@ -147,7 +158,8 @@ silent_notes t c now wanted (n ∷ ns) h =
 pub leaves_silent : Laws → (m : Music) (t track c : ℕ) (now wanted : State) → IsSettled m → m.zones ≡ no_zones → c ≤ 15
     → IsWellFormed now → IsWellFormed wanted → now.own ≡ channel_at m c
     → ((k : ℕ) → sounding_on c k m.notes ≡ 0) → (brought_to m t track c now wanted).notes ≡ m.notes
-leaves_silent l m t track c now wanted s z ok hn hw own h = (plays l m t track c now wanted s z ok hn hw own).notes ∙ silent_notes t c now wanted m.notes h
+leaves_silent l m t track c now wanted s z ok hn hw own h =
+    (plays l m t track c now wanted s z ok hn hw own).notes ∙ silent_notes t c now wanted m.notes h
 
 -- ---- pedals that stay
 
@@ -193,4 +205,5 @@ pub ends_none : Laws → (m : Music) (t track c : ℕ) (now wanted : State) → 
     → is_pedal_down (control_of wanted.own 66) ≡ is_pedal_down (control_of now.own 66)
     → (brought_to m t track c now wanted).notes ≡ map (pressed c now.keys wanted.keys) m.notes
 ends_none l m t track c now wanted s z ok hn hw own e f =
-    (plays l m t track c now wanted s z ok hn hw own).notes ∙ all_stay t m.channels c now wanted m.notes e f (calm_music m t c now.own s z (omega (arith, s.channels, ok)) own)
+    (plays l m t track c now wanted s z ok hn hw own).notes
+    ∙ all_stay t m.channels c now wanted m.notes e f (calm_music m t c now.own s z (omega (arith, s.channels, ok)) own)

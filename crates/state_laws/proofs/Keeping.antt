@@ -23,7 +23,8 @@ default_bytes false false = (omega arith, omega arith)
 
 pub value_bytes : (es : List Entry) (p : Parameter) → AreEntered es → Bytes (value_of es p)
 value_bytes [] p h = default_bytes (nat_eq (rank p) 0) (nat_eq (rank p) 5)
-value_bytes (e ∷ es) p h = cond_both (nat_eq (rank e.parameter) (rank p)) e.value (value_of es p) Bytes (λ _. (h.0.high, h.0.low)) (λ _. value_bytes es p h.1)
+value_bytes (e ∷ es) p h =
+    cond_both (nat_eq (rank e.parameter) (rank p)) e.value (value_of es p) Bytes (λ _. (h.0.high, h.0.low)) (λ _. value_bytes es p h.1)
 
 pub entered_front : (p : Parameter) (v : ℕ × ℕ) (es : List Entry)
     → (let e : Entry = record { parameter = p; value = v } in IsEntered e) → AreEntered es → AreEntered (with_front p v es)
@@ -55,7 +56,8 @@ fits_by p false false true h e = tt
 fits_by p false false false h e = (h, e)
 
 fits_in : (b : Bool) (x : ℕ × ℕ) → Bytes x → Fits (target_in b x)
-fits_in b x h = fits_by (record { registered = b; high = x.0; low = x.1 }) (pair_eq x (127, 127)) (b && pair_eq x (0, 3)) (b && pair_eq x (0, 6)) (record { high = omega (arith, h.0); low = omega (arith, h.1) }) refl
+fits_in b x h =
+    fits_by (record { registered = b; high = x.0; low = x.1 }) (pair_eq x (127, 127)) (b && pair_eq x (0, 3)) (b && pair_eq x (0, 6)) (record { high = omega (arith, h.0); low = omega (arith, h.1) }) refl
 
 abbrev pub Selected : Selection → Type 0
 Selected s = Bytes s.rpn × Bytes s.nrpn
@@ -67,13 +69,15 @@ abbrev pub Good : List Entry → Type 0
 Good es = IsCanonical es × AreEntered es
 
 good_high : Laws → (v : ℕ) (t : Target) (es : List Entry) → Fits t → v ≤ 127 → Good es → Good (with_high v t es)
-good_high l v (Value p) es f h g = (l.form p (v, (value_of es p).1) es g.0, entered_put p (v, (value_of es p).1) es (record { small = f.0; settable = f.1; high = h; low = (value_bytes es p g.1).1 }) g.1)
+good_high l v (Value p) es f h g =
+    (l.form p (v, (value_of es p).1) es g.0, entered_put p (v, (value_of es p).1) es (record { small = f.0; settable = f.1; high = h; low = (value_bytes es p g.1).1 }) g.1)
 good_high l v Nowhere es f h g = g
 good_high l v TuningProgram es f h g = g
 good_high l v ZoneSize es f h g = g
 
 good_low : Laws → (v : ℕ) (t : Target) (es : List Entry) → Fits t → v ≤ 127 → Good es → Good (with_low v t es)
-good_low l v (Value p) es f h g = (l.form p ((value_of es p).0, v) es g.0, entered_put p ((value_of es p).0, v) es (record { small = f.0; settable = f.1; high = (value_bytes es p g.1).0; low = h }) g.1)
+good_low l v (Value p) es f h g =
+    (l.form p ((value_of es p).0, v) es g.0, entered_put p ((value_of es p).0, v) es (record { small = f.0; settable = f.1; high = (value_bytes es p g.1).0; low = h }) g.1)
 good_low l v Nowhere es f h g = g
 good_low l v TuningProgram es f h g = g
 good_low l v ZoneSize es f h g = g
@@ -173,30 +177,43 @@ abbrev turned : State → ℕ → ℕ → Role → State
 turned s n v r = record { own = controlled s.own n v r; keys = reset_keys s.keys r }
 
 well_controlled : Laws → (s : State) (n v : ℕ) (r : Role) → role n ≡ r → v ≤ 127 → IsWellFormed s → IsWellFormed (turned s n v r)
-well_controlled l s n v Stored e w h = made (turned s n v Stored) (controls_set s.own.controls n v (ap is_kept e) w (controls_of s h)) (selected_of s h) (h.canonical, h.entered) (rest_of s h) (keys_of s h)
-well_controlled l s n v EntryHigh e w h = made (turned s n v EntryHigh) (controls_of s h) (selected_of s h) (good_high l v (target s.own.selection) s.own.params (fits s.own.selection (selected_of s h)) w (h.canonical, h.entered)) (rest_of s h) (keys_of s h)
-well_controlled l s n v EntryLow e w h = made (turned s n v EntryLow) (controls_of s h) (selected_of s h) (good_low l v (target s.own.selection) s.own.params (fits s.own.selection (selected_of s h)) w (h.canonical, h.entered)) (rest_of s h) (keys_of s h)
-well_controlled l s n v NrpnLow e w h = made (turned s n v NrpnLow) (controls_of s h) ((h.rpn_high, h.rpn_low), (h.nrpn_high, w)) (h.canonical, h.entered) (rest_of s h) (keys_of s h)
-well_controlled l s n v NrpnHigh e w h = made (turned s n v NrpnHigh) (controls_of s h) ((h.rpn_high, h.rpn_low), (w, h.nrpn_low)) (h.canonical, h.entered) (rest_of s h) (keys_of s h)
-well_controlled l s n v RpnLow e w h = made (turned s n v RpnLow) (controls_of s h) ((h.rpn_high, w), (h.nrpn_high, h.nrpn_low)) (h.canonical, h.entered) (rest_of s h) (keys_of s h)
-well_controlled l s n v RpnHigh e w h = made (turned s n v RpnHigh) (controls_of s h) ((w, h.rpn_low), (h.nrpn_high, h.nrpn_low)) (h.canonical, h.entered) (rest_of s h) (keys_of s h)
-well_controlled l s n v ResetControllers e w h = made (turned s n v ResetControllers) (controls_reset s.own.controls (controls_of s h)) none_selected (h.canonical, h.entered) (record { high = h.bank_high; low = h.bank_low; program = h.program; bend = omega arith; pressure = omega arith }) keys_zero
+well_controlled l s n v Stored e w h =
+    made (turned s n v Stored) (controls_set s.own.controls n v (ap is_kept e) w (controls_of s h)) (selected_of s h) (h.canonical, h.entered) (rest_of s h) (keys_of s h)
+well_controlled l s n v EntryHigh e w h =
+    made (turned s n v EntryHigh) (controls_of s h) (selected_of s h) (good_high l v (target s.own.selection) s.own.params (fits s.own.selection (selected_of s h)) w (h.canonical, h.entered)) (rest_of s h) (keys_of s h)
+well_controlled l s n v EntryLow e w h =
+    made (turned s n v EntryLow) (controls_of s h) (selected_of s h) (good_low l v (target s.own.selection) s.own.params (fits s.own.selection (selected_of s h)) w (h.canonical, h.entered)) (rest_of s h) (keys_of s h)
+well_controlled l s n v NrpnLow e w h =
+    made (turned s n v NrpnLow) (controls_of s h) ((h.rpn_high, h.rpn_low), (h.nrpn_high, w)) (h.canonical, h.entered) (rest_of s h) (keys_of s h)
+well_controlled l s n v NrpnHigh e w h =
+    made (turned s n v NrpnHigh) (controls_of s h) ((h.rpn_high, h.rpn_low), (w, h.nrpn_low)) (h.canonical, h.entered) (rest_of s h) (keys_of s h)
+well_controlled l s n v RpnLow e w h =
+    made (turned s n v RpnLow) (controls_of s h) ((h.rpn_high, w), (h.nrpn_high, h.nrpn_low)) (h.canonical, h.entered) (rest_of s h) (keys_of s h)
+well_controlled l s n v RpnHigh e w h =
+    made (turned s n v RpnHigh) (controls_of s h) ((w, h.rpn_low), (h.nrpn_high, h.nrpn_low)) (h.canonical, h.entered) (rest_of s h) (keys_of s h)
+well_controlled l s n v ResetControllers e w h =
+    made (turned s n v ResetControllers) (controls_reset s.own.controls (controls_of s h)) none_selected (h.canonical, h.entered) (record { high = h.bank_high; low = h.bank_low; program = h.program; bend = omega arith; pressure = omega arith }) keys_zero
 well_controlled l s n v AllSoundOff e w h = h
 well_controlled l s n v AllNotesOff e w h = h
 well_controlled l s n v Ignored e w h = h
 
 struck : (s : State) (c k v : ℕ) → IsWellFormed s → IsWellFormed (apply_state s (NoteOn c k v))
 struck s c k zero h = h
-struck s c k (suc v) h = made (apply_state s (NoteOn c k (suc v))) (controls_of s h) (selected_of s h) (h.canonical, h.entered) (rest_of s h) (keys_set s.keys k 0 (omega arith) (keys_of s h))
+struck s c k (suc v) h =
+    made (apply_state s (NoteOn c k (suc v))) (controls_of s h) (selected_of s h) (h.canonical, h.entered) (rest_of s h) (keys_set s.keys k 0 (omega arith) (keys_of s h))
 
 pub well_after : Laws → (s : State) (m : Msg) → IsWellFormed s → IsValidMsg m → IsWellFormed (apply_state s m)
 well_after l s (NoteOn c k v) h ok = struck s c k v h
 well_after l s (NoteOff c k v) h ok = h
-well_after l s (KeyPressure c k v) h ok = made (apply_state s (KeyPressure c k v)) (controls_of s h) (selected_of s h) (h.canonical, h.entered) (rest_of s h) (keys_set s.keys k v ok.2 (keys_of s h))
+well_after l s (KeyPressure c k v) h ok =
+    made (apply_state s (KeyPressure c k v)) (controls_of s h) (selected_of s h) (h.canonical, h.entered) (rest_of s h) (keys_set s.keys k v ok.2 (keys_of s h))
 well_after l s (Control c n v) h ok = well_controlled l s n v (role n) refl ok.2 h
-well_after l s (Program c p) h ok = made (apply_state s (Program c p)) (controls_of s h) (selected_of s h) (h.canonical, h.entered) (record { high = h.control_bytes 0; low = h.control_bytes 32; program = ok.1; bend = h.bend; pressure = h.pressure }) (keys_of s h)
-well_after l s (Pressure c v) h ok = made (apply_state s (Pressure c v)) (controls_of s h) (selected_of s h) (h.canonical, h.entered) (record { high = h.bank_high; low = h.bank_low; program = h.program; bend = h.bend; pressure = ok.1 }) (keys_of s h)
-well_after l s (Bend c v) h ok = made (apply_state s (Bend c v)) (controls_of s h) (selected_of s h) (h.canonical, h.entered) (record { high = h.bank_high; low = h.bank_low; program = h.program; bend = ok.1; pressure = h.pressure }) (keys_of s h)
+well_after l s (Program c p) h ok =
+    made (apply_state s (Program c p)) (controls_of s h) (selected_of s h) (h.canonical, h.entered) (record { high = h.control_bytes 0; low = h.control_bytes 32; program = ok.1; bend = h.bend; pressure = h.pressure }) (keys_of s h)
+well_after l s (Pressure c v) h ok =
+    made (apply_state s (Pressure c v)) (controls_of s h) (selected_of s h) (h.canonical, h.entered) (record { high = h.bank_high; low = h.bank_low; program = h.program; bend = h.bend; pressure = ok.1 }) (keys_of s h)
+well_after l s (Bend c v) h ok =
+    made (apply_state s (Bend c v)) (controls_of s h) (selected_of s h) (h.canonical, h.entered) (record { high = h.bank_high; low = h.bank_low; program = h.program; bend = ok.1; pressure = h.pressure }) (keys_of s h)
 
 controls_zero : Controls (replicate 120 0)
 controls_zero = record { length = refl; unstored = λ n _. zeros 120 n; bytes = λ n. rw (zeros 120 n) (omega arith) }
@@ -209,4 +226,5 @@ controls_default =
     (controls_set _ 10 64 refl (omega arith) (controls_set _ 8 64 refl (omega arith) (controls_set (replicate 120 0) 7 100 refl (omega arith) controls_zero))))))))))))))
 
 pub well_at_first : IsWellFormed default_state
-well_at_first = made default_state controls_default none_selected (tt, tt) (record { high = omega arith; low = omega arith; program = omega arith; bend = omega arith; pressure = omega arith }) keys_zero
+well_at_first =
+    made default_state controls_default none_selected (tt, tt) (record { high = omega arith; low = omega arith; program = omega arith; bend = omega arith; pressure = omega arith }) keys_zero

@@ -61,7 +61,8 @@ tuning_along r t track ss c st ns (x ∷ ms) low e a =
     let m : Music = music_of ss c st.own ns in
     let own : channel_at m c ≡ st.own = get_or-set_same ss c st.own default_channel low in
     let now : Channel = apply st.own x in
-    let next : settle t (act t x r.music) ≡ music_of ss c now (map (settled_by t ss c (control_of now 64)) (notes_after m t x)) = ap (λ y. settle t (act t x y)) e ∙ one_step t ss c st ns x low a.0 in
+    let next : settle t (act t x r.music) ≡ music_of ss c now (map (settled_by t ss c (control_of now 64)) (notes_after m t x)) =
+    ap (λ y. settle t (act t x y)) e ∙ one_step t ss c st ns x low a.0 in
     tuning_along (record { music = settle t (act t x r.music); tuning = tuning_heard r.music x r.tuning }) t track ss c (apply_state st x) (map (settled_by t ss c (control_of now 64)) (notes_after m t x)) ms low next a.1
     ∙ tuning_same r.music c st x r.tuning (ap (λ y. channel_at y c) e ∙ own) a.0
 
@@ -73,7 +74,8 @@ keeps_tuning l r t track c now wanted s z ok hn hw own =
     let ss : List Channel = m.channels in
     let put : set ss c now.own ≡ ss = ap (λ x. set ss c x) own ∙ set-get_or ss c default_channel in
     let start : m ≡ music_of ss c now.own m.notes =
-    ap (λ x. let y : Music = record { channels = ss; zones = x; notes = m.notes } in y) z ∙ ap (λ x. let y : Music = record { channels = x; zones = no_zones; notes = m.notes } in y) (sym put) in
+    ap (λ x. let y : Music = record { channels = ss; zones = x; notes = m.notes } in y) z
+    ∙ ap (λ x. let y : Music = record { channels = x; zones = no_zones; notes = m.notes } in y) (sym put) in
     tuning_along r t track ss c now m.notes (bring c now wanted) (omega (arith, s.channels, ok)) start (only_settings l c now wanted ok hn hw)
 
 -- ---- the channel on the way
@@ -100,7 +102,8 @@ room_on_the_way l m t track c k now wanted s z ok hn hw own =
     let ms : List Msg = take k (bring c now wanted) in
     let put : set ss c now.own ≡ ss = ap (λ x. set ss c x) own ∙ set-get_or ss c default_channel in
     let start : m ≡ music_of ss c now.own m.notes =
-    ap (λ x. let y : Music = record { channels = ss; zones = x; notes = m.notes } in y) z ∙ ap (λ x. let y : Music = record { channels = x; zones = no_zones; notes = m.notes } in y) (sym put) in
+    ap (λ x. let y : Music = record { channels = ss; zones = x; notes = m.notes } in y) z
+    ∙ ap (λ x. let y : Music = record { channels = x; zones = no_zones; notes = m.notes } in y) (sym put) in
     let at : channel_at (play m (events_of t track ms)) c ≡ (apply_all now ms).own =
     ap (λ x. channel_at x c) (play_events t track m ms) ∙ ap (λ x. channel_at (sounded t x ms) c) start
     ∙ own_along t ss c now m.notes ms (omega (arith, s.channels, ok)) (along_take (OnlySets c) k now (bring c now wanted) (only_settings l c now wanted ok hn hw)) in

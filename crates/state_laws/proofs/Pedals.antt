@@ -241,7 +241,8 @@ pressure_keeps f c k y b n h = pick b (is_at c k n && sounds n)
 
 other_key : (c k y : ℕ) (n : Note) → n.key ≢ k → with_pressure c k y n ≡ n
 other_key c k y n h =
-    let e : (is_at c k n && sounds n) ≡ false = and_left (is_at c k n) (sounds n) (and_right (nat_eq n.channel c) (nat_eq n.key k) (ne_eqb n.key k h)) in
+    let e : (is_at c k n && sounds n) ≡ false =
+    and_left (is_at c k n) (sounds n) (and_right (nat_eq n.channel c) (nat_eq n.key k) (ne_eqb n.key k h)) in
     ap (λ b. cond b (record n { pressure = y }) n) e
 
 no_matter : (b : Bool) (m n : Note) → m ≡ n → cond b n m ≡ n
@@ -252,7 +253,8 @@ press_past : (c k : ℕ) (xs ys : List ℕ) (n : Note) → n.key < k → press c
 press_past c k [] ys n h = refl
 press_past c k (x ∷ xs) [] n h = refl
 press_past c k (x ∷ xs) (y ∷ ys) n h =
-    ap (press c (k + 1) xs ys) (no_matter (nat_eq x y) (with_pressure c k y n) n (other_key c k y n (λ e. omega (arith, h, e)))) ∙ press_past c (k + 1) xs ys n (omega (arith, h))
+    ap (press c (k + 1) xs ys) (no_matter (nat_eq x y) (with_pressure c k y n) n (other_key c k y n (λ e. omega (arith, h, e))))
+    ∙ press_past c (k + 1) xs ys n (omega (arith, h))
 
 abbrev pressed_by : ℕ → ℕ → ℕ → Note → Note
 pressed_by c x y n = cond ((nat_eq n.channel c && sounds n) && not (nat_eq x y)) (record n { pressure = y }) n
@@ -287,7 +289,8 @@ press_at c k zero (x ∷ xs) (y ∷ ys) n e l =
     let g : m.key ≡ n.key = pressure_keeps (λ x. x.key) c k y (nat_eq x y) n (λ p. refl) in
     press_past c (k + 1) xs ys m (omega (arith, f, g)) ∙ this_key c k x y n f
 press_at c k (suc j) (x ∷ xs) (y ∷ ys) n e l =
-    ap (press c (k + 1) xs ys) (no_matter (nat_eq x y) (with_pressure c k y n) n (other_key c k y n (λ f. omega (arith, e, f)))) ∙ press_at c (k + 1) j xs ys n (omega (arith, e)) (omega (arith, l))
+    ap (press c (k + 1) xs ys) (no_matter (nat_eq x y) (with_pressure c k y n) n (other_key c k y n (λ f. omega (arith, e, f))))
+    ∙ press_at c (k + 1) j xs ys n (omega (arith, e)) (omega (arith, l))
 
 pub press_is : (c : ℕ) (before after : List ℕ) (n : Note) → length before ≡ length after
     → press c 0 before after n ≡ pressed c before after n

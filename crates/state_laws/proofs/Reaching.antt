@@ -21,7 +21,8 @@ pub voice_controls-keep : (P : List ℕ → Type 0) (cs : List ℕ) (now v : Voi
     → ((l : List ℕ) → P l → P (set l 32 v.low)) → P cs → P (voice_controls cs now v)
 voice_controls-keep P cs now v h l p =
     let one : P (high_bank cs v.high) = cond_both (nat_eq (get_or cs 0 0) v.high) cs (set cs 0 v.high) P (λ _. p) (λ _. h cs p) in
-    let two : P (banks cs v) = cond_both (nat_eq (get_or cs 32 0) v.low) (high_bank cs v.high) (set (high_bank cs v.high) 32 v.low) P (λ _. one) (λ _. l (high_bank cs v.high) one) in
+    let two : P (banks cs v) =
+    cond_both (nat_eq (get_or cs 32 0) v.low) (high_bank cs v.high) (set (high_bank cs v.high) 32 v.low) P (λ _. one) (λ _. l (high_bank cs v.high) one) in
     cond_both (voice_eq now v) cs (banks cs v) P (λ _. p) (λ _. two)
 
 pub record Sized (cs : List ℕ) : Type 0 where
@@ -144,7 +145,8 @@ reaches l c now wanted hn hw = ap unselected (bring_reach l c now wanted hn hw)
 
 pub kept_selection : Laws → (c : ℕ) (now wanted : State) → IsWellFormed now → IsWellFormed wanted → changed now wanted ≡ []
     → (apply_all now (bring c now wanted)).own.selection ≡ now.own.selection
-kept_selection l c now wanted hn hw e = ap (λ t. t.own.selection) (bring_reach l c now wanted hn hw) ∙ ap (λ es. selection_after now.own.selection es) e
+kept_selection l c now wanted hn hw e =
+    ap (λ t. t.own.selection) (bring_reach l c now wanted hn hw) ∙ ap (λ es. selection_after now.own.selection es) e
 
 closed_after : (sel : Selection) (es : List Entry) → es ≢ [] → IsClosed (selection_after sel es)
 closed_after sel [] h = absurd (h refl)
@@ -152,7 +154,8 @@ closed_after sel (e ∷ es) h = record { registered = refl; rpn = refl }
 
 pub closed_selection : Laws → (c : ℕ) (now wanted : State) → IsWellFormed now → IsWellFormed wanted → changed now wanted ≢ []
     → IsClosed (apply_all now (bring c now wanted)).own.selection
-closed_selection l c now wanted hn hw h = subst (λ (t : State). IsClosed t.own.selection) (sym (bring_reach l c now wanted hn hw)) (closed_after now.own.selection (changed now wanted) h)
+closed_selection l c now wanted hn hw h =
+    subst (λ (t : State). IsClosed t.own.selection) (sym (bring_reach l c now wanted hn hw)) (closed_after now.own.selection (changed now wanted) h)
 
 free_by : (c : ℕ) (now : State) (v : Voice) (b h l : Bool)
     → (let ms : List Msg = cond b [] ((cond h [] (Control c 0 v.high ∷ []) ++ cond l [] (Control c 32 v.low ∷ [])) ++ Program c v.program ∷ []) in

@@ -109,7 +109,8 @@ low_turned m t c n v Stored h =
 low_turned m t c n v ResetControllers h =
     low_map (λ x. without_pressure c (sostenuto m.zones c (control_of (channel_at m c) 66) 0 x)) m.notes (λ x k. low_without c (sostenuto m.zones c (control_of (channel_at m c) 66) 0 x) (low_sostenuto m.zones c (control_of (channel_at m c) 66) 0 x k)) h
 low_turned m t c n v AllSoundOff h = low_map (end_all t m.zones c) m.notes (λ x k. low_if (hears m.zones c x) (ending t x) x (low_ending t x k) k) h
-low_turned m t c n v AllNotesOff h = low_map (release_all t m.zones c) m.notes (λ x k. low_if (hears m.zones c x) (releasing t 64 x) x (low_releasing t 64 x k) k) h
+low_turned m t c n v AllNotesOff h =
+    low_map (release_all t m.zones c) m.notes (λ x k. low_if (hears m.zones c x) (releasing t 64 x) x (low_releasing t 64 x k) k) h
 low_turned m t c n v EntryHigh h = h
 low_turned m t c n v EntryLow h = h
 low_turned m t c n v NrpnLow h = h
@@ -126,7 +127,8 @@ low_after m t (NoteOn c k zero) ok h = low_release t c k 64 m.notes h
 low_after m t (NoteOn c k (suc v)) ok h =
     low_append (map (cut_off t c k) m.notes) (begun m t c k (suc v) ∷ []) (low_map (cut_off t c k) m.notes (λ x g. low_if (is_at c k x) (ending t x) x (low_ending t x g) g) h) (omega arith, tt)
 low_after m t (NoteOff c k v) ok h = low_release t c k v m.notes h
-low_after m t (KeyPressure c k v) ok h = low_map (with_pressure c k v) m.notes (λ x g. low_if (is_at c k x && sounds x) (record x { pressure = v }) x ok.2 g) h
+low_after m t (KeyPressure c k v) ok h =
+    low_map (with_pressure c k v) m.notes (λ x g. low_if (is_at c k x && sounds x) (record x { pressure = v }) x ok.2 g) h
 low_after m t (Control c n v) ok h = low_turned m t c n v (role n) h
 low_after m t (Program c p) ok h = h
 low_after m t (Pressure c v) ok h = h
@@ -143,7 +145,8 @@ well_channels l m msg ok h =
 sound_play : Laws → (m : Music) (t : ℕ) (msg : Msg) → IsValidMsg msg → AreWellFormed m → AreWellFormed (advance t (Plays msg) m)
 sound_play l m t msg ok h = record {
   channels = well_channels l m msg ok h.channels;
-  pressures = low_map (settle_note (channels_after m msg) (zones_after m msg) t) (notes_after m t msg) (λ x g. low_if (is_over (channels_after m msg) (zones_after m msg) x) (ending t x) x (low_ending t x g) g) (low_after m t msg ok h.pressures);
+  pressures =
+      low_map (settle_note (channels_after m msg) (zones_after m msg) t) (notes_after m t msg) (λ x g. low_if (is_over (channels_after m msg) (zones_after m msg) x) (ending t x) x (low_ending t x g) g) (low_after m t msg ok h.pressures);
 }
 
 well_quiet : (n : ℕ) → AllWell (replicate n default_channel)
@@ -177,7 +180,8 @@ sound_all l m (e ∷ es) ok h = sound_all l (step m e) es ok.1 (sound_what l m e
 
 low_pressure : (ns : List Note) (c k : ℕ) → AllLow ns → key_pressure ns c k ≤ 127
 low_pressure [] c k h = omega arith
-low_pressure (n ∷ ns) c k h = cond_both (is_at c k n && sounds n) n.pressure (key_pressure ns c k) (λ (v : ℕ). v ≤ 127) (λ _. h.0) (λ _. low_pressure ns c k h.1)
+low_pressure (n ∷ ns) c k h =
+    cond_both (is_at c k n && sounds n) n.pressure (key_pressure ns c k) (λ (v : ℕ). v ≤ 127) (λ _. h.0) (λ _. low_pressure ns c k h.1)
 
 low_pressures : (ns : List Note) (c i m j : ℕ) → AllLow ns → get_or (key_pressures ns c i m) j 0 ≤ 127
 low_pressures ns c i zero j h = omega arith

@@ -80,7 +80,8 @@ within_count (e ∷ es) (f ∷ fs) ha hb w = elim (cases_order (rank e.parameter
   | inr s ↦ elim s [
     | inl r ↦ absurd (first_in e es (f ∷ fs) ha w (skip f fs e.parameter (λ x. omega (arith, r, x)) ∙ absent fs e.parameter (rank f.parameter) hb.1 (omega (arith, r))))
     | inr r ↦
-        let ih : count (e ∷ es) ≤ count fs = within_count (e ∷ es) fs ha hb.2 (within_rest (e ∷ es) f fs w (above_from (rank f.parameter) e es r ha)) in
+        let ih : count (e ∷ es) ≤ count fs =
+        within_count (e ∷ es) fs ha hb.2 (within_rest (e ∷ es) f fs w (above_from (rank f.parameter) e es r ha)) in
         let more : count fs ≤ count (f ∷ fs) = count_more f fs in
         omega (arith, ih, more)
   ]
@@ -111,11 +112,13 @@ phase_count b ps hb h = within_count ps b h.canonical hb h.within
 
 phase_high : Laws → (b ps : List Entry) (e : Entry) (v : ℕ × ℕ) → value_of b e.parameter ≢ default_value e.parameter
     → Phase b ps → Phase b (high_set v e ps)
-phase_high l b ps e v d h = cond_both (nat_eq v.0 e.value.0) ps (put e.parameter (e.value.0, (value_of ps e.parameter).1) ps) (Phase b) (λ _. h) (λ _. phase_put l b ps e.parameter (e.value.0, (value_of ps e.parameter).1) d h)
+phase_high l b ps e v d h =
+    cond_both (nat_eq v.0 e.value.0) ps (put e.parameter (e.value.0, (value_of ps e.parameter).1) ps) (Phase b) (λ _. h) (λ _. phase_put l b ps e.parameter (e.value.0, (value_of ps e.parameter).1) d h)
 
 phase_low : Laws → (b ps : List Entry) (e : Entry) (v : ℕ × ℕ) → value_of b e.parameter ≢ default_value e.parameter
     → Phase b ps → Phase b (low_set v e ps)
-phase_low l b ps e v d h = cond_both (nat_eq v.1 e.value.1) ps (put e.parameter ((value_of ps e.parameter).0, e.value.1) ps) (Phase b) (λ _. h) (λ _. phase_put l b ps e.parameter ((value_of ps e.parameter).0, e.value.1) d h)
+phase_low l b ps e v d h =
+    cond_both (nat_eq v.1 e.value.1) ps (put e.parameter ((value_of ps e.parameter).0, e.value.1) ps) (Phase b) (λ _. h) (λ _. phase_put l b ps e.parameter ((value_of ps e.parameter).0, e.value.1) d h)
 
 phase_entered : Laws → (b ps : List Entry) (e : Entry) (v : ℕ × ℕ) → value_of b e.parameter ≢ default_value e.parameter
     → Phase b ps → Phase b (entered v e ps)
@@ -136,7 +139,8 @@ sticks_all (e ∷ es) h = (λ x. not_default e es h (sym (found e es e.parameter
 
 sticks_filter : (b : List Entry) (p : Entry → Bool) (es : List Entry) → Sticks b es → Sticks b (filter p es)
 sticks_filter b p [] h = tt
-sticks_filter b p (e ∷ es) h = cond_both (p e) (e ∷ filter p es) (filter p es) (Sticks b) (λ _. (h.0, sticks_filter b p es h.1)) (λ _. sticks_filter b p es h.1)
+sticks_filter b p (e ∷ es) h =
+    cond_both (p e) (e ∷ filter p es) (filter p es) (Sticks b) (λ _. (h.0, sticks_filter b p es h.1)) (λ _. sticks_filter b p es h.1)
 
 sticks_default : (b es : List Entry) → Sticks b es → Sticks b (map made_default es)
 sticks_default b [] h = tt
@@ -162,9 +166,12 @@ along_voice : (c n : ℕ) (s : State) (v : Voice) (a h l : Bool) → c ≤ 15 �
     → Along (Careful c n) s (cond a [] ((cond h [] (Control c 0 v.high ∷ []) ++ cond l [] (Control c 32 v.low ∷ [])) ++ Program c v.program ∷ []))
 along_voice c n s v true h l ok vh vl vp r = tt
 along_voice c n s v false true true ok vh vl vp r = (record { channel = refl; sets = refl; valid = (ok, vp); room = r }, tt)
-along_voice c n s v false true false ok vh vl vp r = (record { channel = refl; sets = refl; valid = (ok, omega arith, vl); room = r }, (record { channel = refl; sets = refl; valid = (ok, vp); room = r }, tt))
-along_voice c n s v false false true ok vh vl vp r = (record { channel = refl; sets = refl; valid = (ok, omega arith, vh); room = r }, (record { channel = refl; sets = refl; valid = (ok, vp); room = r }, tt))
-along_voice c n s v false false false ok vh vl vp r = (record { channel = refl; sets = refl; valid = (ok, omega arith, vh); room = r }, (record { channel = refl; sets = refl; valid = (ok, omega arith, vl); room = r }, (record { channel = refl; sets = refl; valid = (ok, vp); room = r }, tt)))
+along_voice c n s v false true false ok vh vl vp r =
+    (record { channel = refl; sets = refl; valid = (ok, omega arith, vl); room = r }, (record { channel = refl; sets = refl; valid = (ok, vp); room = r }, tt))
+along_voice c n s v false false true ok vh vl vp r =
+    (record { channel = refl; sets = refl; valid = (ok, omega arith, vh); room = r }, (record { channel = refl; sets = refl; valid = (ok, vp); room = r }, tt))
+along_voice c n s v false false false ok vh vl vp r =
+    (record { channel = refl; sets = refl; valid = (ok, omega arith, vh); room = r }, (record { channel = refl; sets = refl; valid = (ok, omega arith, vl); room = r }, (record { channel = refl; sets = refl; valid = (ok, vp); room = r }, tt)))
 
 -- the controllers
 mild_stored : (sel : Selection) (n : ℕ) → is_stored n ≡ true → only_sets_by sel (role n) ≡ true
@@ -193,7 +200,8 @@ along_controls c n m s (x ∷ xs) (y ∷ ys) ok r z low b u =
         → Along (Careful c m) s (cond d [] (Control c n y ∷ []) ++ bring_controls c (n + 1) xs ys)
     pick true t l first rest = rest s r
     pick false t l first rest =
-        let stored : is_stored n ≡ true = true_from_ne_false (is_stored n) (λ f. false≢true (sym t ∙ ap (λ z. nat_eq z y) (u 0 (ap is_stored first ∙ f)) ∙ same y)) in
+        let stored : is_stored n ≡ true =
+        true_from_ne_false (is_stored n) (λ f. false≢true (sym t ∙ ap (λ z. nat_eq z y) (u 0 (ap is_stored first ∙ f)) ∙ same y)) in
         let k : counted (apply_state s (Control c n y)).own ≤ m = room_stored s.own n y m stored r in
         (record { channel = refl; sets = mild_stored s.own.selection n stored; valid = (ok, l, b 0); room = k }, rest (apply_state s (Control c n y)) k)
 
@@ -201,8 +209,10 @@ along_controls c n m s (x ∷ xs) (y ∷ ys) ok r z low b u =
 along_choose_by : (c n : ℕ) (s : State) (sel : Selection) (ps : List Entry) (b : Bool) (h l : ℕ) → c ≤ 15 → h < 128 → l < 128
     → count ps ≤ n
     → (let p : Parameter = record { registered = b; high = h; low = l } in Along (Careful c n) (at_params s sel ps) (choose_parameter c p))
-along_choose_by c n s sel ps true h l ok a b r = (record { channel = refl; sets = refl; valid = (ok, omega arith, omega (arith, a)); room = r }, (record { channel = refl; sets = refl; valid = (ok, omega arith, omega (arith, b)); room = r }, tt))
-along_choose_by c n s sel ps false h l ok a b r = (record { channel = refl; sets = refl; valid = (ok, omega arith, omega (arith, a)); room = r }, (record { channel = refl; sets = refl; valid = (ok, omega arith, omega (arith, b)); room = r }, tt))
+along_choose_by c n s sel ps true h l ok a b r =
+    (record { channel = refl; sets = refl; valid = (ok, omega arith, omega (arith, a)); room = r }, (record { channel = refl; sets = refl; valid = (ok, omega arith, omega (arith, b)); room = r }, tt))
+along_choose_by c n s sel ps false h l ok a b r =
+    (record { channel = refl; sets = refl; valid = (ok, omega arith, omega (arith, a)); room = r }, (record { channel = refl; sets = refl; valid = (ok, omega arith, omega (arith, b)); room = r }, tt))
 
 room_high : (n v : ℕ) (t : Target) (p : Parameter) (ps : List Entry) → t ≡ Value p
     → count (put p (v, (value_of ps p).1) ps) ≤ n → count (with_high v t ps) ≤ n
@@ -266,7 +276,9 @@ along_each l c n s sel b now ps (e ∷ es) ok hb low h d f =
 -- all of them
 each_append : (c : ℕ) (now a b : List Entry) → bring_each c now (a ++ b) ≡ bring_each c now a ++ bring_each c now b
 each_append c now [] b = refl
-each_append c now (e ∷ a) b = ap (λ r. bring_parameter c (value_of now e.parameter) e ++ r) (each_append c now a b) ∙ sym (append_assoc (bring_parameter c (value_of now e.parameter) e) (bring_each c now a) (bring_each c now b))
+each_append c now (e ∷ a) b =
+    ap (λ r. bring_parameter c (value_of now e.parameter) e ++ r) (each_append c now a b)
+    ∙ sym (append_assoc (bring_parameter c (value_of now e.parameter) e) (bring_each c now a) (bring_each c now b))
 
 along_changes : Laws → (c n : ℕ) (s : State) (sel : Selection) (now wanted : List Entry) → c ≤ 15 → Good now → Good wanted
     → count now ≤ n → count wanted ≤ n
@@ -276,7 +288,8 @@ along_changes l c n s sel now wanted ok gn gw ln lw =
     let b : List Entry = to_other now wanted in
     let mid : List Entry = entered_all now a now in
     let ea = entered_to_default now wanted gn.1 in
-    let set = all_set l now a now (λ q. (value_bytes now q gn.1).1) gn ea (apart_default (filter (wants_default wanted) now) (apart_filter (wants_default wanted) now gn.0)) (fresh_same now a) in
+    let set =
+    all_set l now a now (λ q. (value_bytes now q gn.1).1) gn ea (apart_default (filter (wants_default wanted) now) (apart_filter (wants_default wanted) now gn.0)) (fresh_same now a) in
     let start : Phase now now = record { canonical = gn.0; within = λ q x. x } in
     let then : Phase wanted mid = record { canonical = set.good.0; within = λ q x. set.values q ∙ defaults_set wanted now q x } in
     subst (λ (ms : List Msg). Along (Careful c n) (at_params s sel now) ms) (sym (each_append c now a b))
@@ -287,7 +300,8 @@ along_changes l c n s sel now wanted ok gn gw ln lw =
 
 along_closing : (c n : ℕ) (s : State) (sel : Selection) (ps : List Entry) → c ≤ 15 → count ps ≤ n
     → Along (Careful c n) (at_params s sel ps) (closing c)
-along_closing c n s sel ps ok r = (record { channel = refl; sets = refl; valid = (ok, omega arith, omega arith); room = r }, (record { channel = refl; sets = refl; valid = (ok, omega arith, omega arith); room = r }, tt))
+along_closing c n s sel ps ok r =
+    (record { channel = refl; sets = refl; valid = (ok, omega arith, omega arith); room = r }, (record { channel = refl; sets = refl; valid = (ok, omega arith, omega arith); room = r }, tt))
 
 along_closed : (c n : ℕ) (s : State) (sel : Selection) (now es wanted : List Entry) → c ≤ 15 → AreEntered es
     → entered_all now es now ≡ wanted → count wanted ≤ n
@@ -342,7 +356,8 @@ along_bring l c n now wanted ok hn hw ln lw =
     let four = next now (fourth_state now wanted) (((v ++ k) ++ p) ++ w) b three ∙ bent_reach (fourth_state now wanted) c wanted.own.bend in
     let sz = sized_voice now.own.controls now.own.voice wanted.own.voice (sized now hn) in
     let e : (i : ℕ) → 0 + i ≡ i = λ i. omega arith in
-    let av = along_voice c n now wanted.own.voice (voice_eq now.own.voice wanted.own.voice) (nat_eq (get_or now.own.controls 0 0) wanted.own.voice.high) (nat_eq (get_or now.own.controls 32 0) wanted.own.voice.low) ok hw.bank_high hw.bank_low hw.program ln in
+    let av =
+    along_voice c n now wanted.own.voice (voice_eq now.own.voice wanted.own.voice) (nat_eq (get_or now.own.controls 0 0) wanted.own.voice.high) (nat_eq (get_or now.own.controls 32 0) wanted.own.voice.low) ok hw.bank_high hw.bank_low hw.program ln in
     let ak = along_controls c 0 n (first_state now wanted) (first_state now wanted).own.controls wanted.own.controls ok ln (omega arith) (omega (arith, hw.controls)) hw.control_bytes
     (λ i u. let x : is_stored i ≡ false = ap is_stored (sym (e i)) ∙ u in sz.unstored i x ∙ sym (hw.unstored i x)) in
     let ap = along_closed c n (second_state now wanted) now.own.selection now.own.params (changed now wanted) wanted.own.params ok (entered_changes now.own.params wanted.own.params hn.entered hw.entered) (changed_all l now.own.params wanted.own.params gn gw) lw

@@ -35,14 +35,16 @@ made e v = record { parameter = e.parameter; value = v }
 
 pub sets_high : Laws → (ps : List Entry) (e : Entry) (v : ℕ × ℕ) → Good ps → IsEntered e → v.1 ≤ 127
     → value_of ps e.parameter ≡ v → Sets ps (high_set v e ps) e.parameter (e.value.0, v.1)
-sets_high l ps e v g h k x = cond_both (nat_eq v.0 e.value.0) ps (put e.parameter (e.value.0, (value_of ps e.parameter).1) ps) (λ (r : List Entry). Sets ps r e.parameter (e.value.0, v.1))
+sets_high l ps e v g h k x =
+    cond_both (nat_eq v.0 e.value.0) ps (put e.parameter (e.value.0, (value_of ps e.parameter).1) ps) (λ (r : List Entry). Sets ps r e.parameter (e.value.0, v.1))
     (λ t. sets_same ps e.parameter (e.value.0, v.1) g (x ∙ ap (λ y. (y, v.1)) (eqb-true v.0 e.value.0 t)))
     (λ t. subst (λ (y : ℕ). Sets ps (put e.parameter (e.value.0, y) ps) e.parameter (e.value.0, v.1)) (ap (λ z. z.1) (sym x))
     (sets_put l ps (made e (e.value.0, v.1)) g (record { small = h.small; settable = h.settable; high = h.high; low = k })))
 
 pub sets_low : Laws → (ps : List Entry) (e : Entry) (v : ℕ × ℕ) → Good ps → IsEntered e
     → value_of ps e.parameter ≡ (e.value.0, v.1) → Sets ps (low_set v e ps) e.parameter e.value
-sets_low l ps e v g h x = cond_both (nat_eq v.1 e.value.1) ps (put e.parameter ((value_of ps e.parameter).0, e.value.1) ps) (λ (r : List Entry). Sets ps r e.parameter e.value)
+sets_low l ps e v g h x =
+    cond_both (nat_eq v.1 e.value.1) ps (put e.parameter ((value_of ps e.parameter).0, e.value.1) ps) (λ (r : List Entry). Sets ps r e.parameter e.value)
     (λ t. sets_same ps e.parameter e.value g (x ∙ ap (λ y. (e.value.0, y)) (eqb-true v.1 e.value.1 t)))
     (λ t. subst (λ (y : ℕ). Sets ps (put e.parameter (y, e.value.1) ps) e.parameter e.value) (ap (λ z. z.0) (sym x)) (sets_put l ps e g h))
 
@@ -80,7 +82,8 @@ all_set l now (e ∷ es) ps b g h a f =
     let s = sets_entered l ps e v g h.0 (b e.parameter) f.0 in
     let rest = all_set l now es (entered v e ps) b s.good h.1 a.1 (fresh_after now ps (entered v e ps) es e.parameter e.value s a.0 f.1) in
     let here : (q : Parameter) → rank e.parameter ≡ rank q → value_of (entered_all now es (entered v e ps)) q ≡ value_or (e ∷ es) (value_of ps q) q =
-    λ q x. rest.values q ∙ value_or-missed es (value_of (entered v e ps) q) q (subst (λ (n : ℕ). Misses n es) x a.0) ∙ value_by (entered v e ps) q e.parameter (sym x) ∙ s.here ∙ sym (found_or e es (value_of ps q) q x) in
+    λ q x. rest.values q ∙ value_or-missed es (value_of (entered v e ps) q) q (subst (λ (n : ℕ). Misses n es) x a.0)
+    ∙ value_by (entered v e ps) q e.parameter (sym x) ∙ s.here ∙ sym (found_or e es (value_of ps q) q x) in
     let other : (q : Parameter) → rank e.parameter ≢ rank q → value_of (entered_all now es (entered v e ps)) q ≡ value_or (e ∷ es) (value_of ps q) q =
     λ q x. rest.values q ∙ ap (λ d. value_or es d q) (s.others q (λ y. x (sym y))) ∙ sym (skip_or e es (value_of ps q) q x) in
     record {
@@ -96,9 +99,11 @@ abbrev pub changes : List Entry → List Entry → List Entry
 changes now wanted = to_default now wanted ++ to_other now wanted
 
 pub entered_changes : (now wanted : List Entry) → AreEntered now → AreEntered wanted → AreEntered (changes now wanted)
-entered_changes now wanted hn hw = entered_append (to_default now wanted) (to_other now wanted) (entered_to_default now wanted hn) (entered_to_other now wanted hw)
+entered_changes now wanted hn hw =
+    entered_append (to_default now wanted) (to_other now wanted) (entered_to_default now wanted hn) (entered_to_other now wanted hw)
 
 pub changed_all : Laws → (now wanted : List Entry) → Good now → Good wanted → entered_all now (changes now wanted) now ≡ wanted
 changed_all l now wanted gn gw =
-    let s = all_set l now (changes now wanted) now (λ q. (value_bytes now q gn.1).1) gn (entered_changes now wanted gn.1 gw.1) (changes_apart now wanted gn.0 gw.0) (fresh_same now (changes now wanted)) in
+    let s =
+    all_set l now (changes now wanted) now (λ q. (value_bytes now q gn.1).1) gn (entered_changes now wanted gn.1 gw.1) (changes_apart now wanted gn.0 gw.0) (fresh_same now (changes now wanted)) in
     l.equal (entered_all now (changes now wanted) now) wanted s.good.0 gw.0 (small (entered_all now (changes now wanted) now) s.good.1) (small wanted gw.1) (λ q. s.values q ∙ changes_set now wanted q gn.0 gw.0)

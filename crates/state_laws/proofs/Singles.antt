@@ -27,7 +27,8 @@ voice_same : (v : Voice) → voice_eq v v ≡ true
 voice_same v = rw (same_nat v.high, same_nat v.low, same_nat v.program) refl
 
 voice_none : (c : ℕ) (s : Channel) → bring_voice c s s.voice ≡ []
-voice_none c s = ap (λ b. cond b [] ((where_differs (control_of s 0) s.voice.high (Control c 0 s.voice.high) ++ where_differs (control_of s 32) s.voice.low (Control c 32 s.voice.low)) ++ Program c s.voice.program ∷ [])) (voice_same s.voice)
+voice_none c s =
+    ap (λ b. cond b [] ((where_differs (control_of s 0) s.voice.high (Control c 0 s.voice.high) ++ where_differs (control_of s 32) s.voice.low (Control c 32 s.voice.low)) ++ Program c s.voice.program ∷ [])) (voice_same s.voice)
 
 controls_none : (c k : ℕ) (xs : List ℕ) → bring_controls c k xs xs ≡ []
 controls_none c k [] = refl
@@ -42,20 +43,24 @@ controls_one : (c k j v : ℕ) (xs : List ℕ) → j < length xs
 controls_one c k j v [] h = absurd (omega (arith, h))
 controls_one c k zero v (x ∷ xs) h =
     let e : k ≡ k + 0 = omega arith in
-    ap (λ l. where_differs x v (Control c k v) ++ l) (controls_none c (k + 1) xs) ∙ append-nil (where_differs x v (Control c k v)) ∙ ap (λ i. where_differs x v (Control c i v)) e
+    ap (λ l. where_differs x v (Control c k v) ++ l) (controls_none c (k + 1) xs)
+    ∙ append-nil (where_differs x v (Control c k v)) ∙ ap (λ i. where_differs x v (Control c i v)) e
 controls_one c k (suc j) v (x ∷ xs) h =
     let e : (k + 1) + j ≡ k + suc j = omega arith in
-    ap (λ l. l ++ bring_controls c (k + 1) xs (set xs j v)) (differs_none x (Control c k x)) ∙ controls_one c (k + 1) j v xs (omega (arith, h)) ∙ ap (λ i. where_differs (get_or xs j 0) v (Control c i v)) e
+    ap (λ l. l ++ bring_controls c (k + 1) xs (set xs j v)) (differs_none x (Control c k x))
+    ∙ controls_one c (k + 1) j v xs (omega (arith, h)) ∙ ap (λ i. where_differs (get_or xs j 0) v (Control c i v)) e
 
 keys_one : (c k j v : ℕ) (xs : List ℕ) → j < length xs
     → bring_keys c k xs (set xs j v) ≡ where_differs (get_or xs j 0) v (KeyPressure c (k + j) v)
 keys_one c k j v [] h = absurd (omega (arith, h))
 keys_one c k zero v (x ∷ xs) h =
     let e : k ≡ k + 0 = omega arith in
-    ap (λ l. where_differs x v (KeyPressure c k v) ++ l) (keys_none c (k + 1) xs) ∙ append-nil (where_differs x v (KeyPressure c k v)) ∙ ap (λ i. where_differs x v (KeyPressure c i v)) e
+    ap (λ l. where_differs x v (KeyPressure c k v) ++ l) (keys_none c (k + 1) xs)
+    ∙ append-nil (where_differs x v (KeyPressure c k v)) ∙ ap (λ i. where_differs x v (KeyPressure c i v)) e
 keys_one c k (suc j) v (x ∷ xs) h =
     let e : (k + 1) + j ≡ k + suc j = omega arith in
-    ap (λ l. l ++ bring_keys c (k + 1) xs (set xs j v)) (differs_none x (KeyPressure c k x)) ∙ keys_one c (k + 1) j v xs (omega (arith, h)) ∙ ap (λ i. where_differs (get_or xs j 0) v (KeyPressure c i v)) e
+    ap (λ l. l ++ bring_keys c (k + 1) xs (set xs j v)) (differs_none x (KeyPressure c k x))
+    ∙ keys_one c (k + 1) j v xs (omega (arith, h)) ∙ ap (λ i. where_differs (get_or xs j 0) v (KeyPressure c i v)) e
 
 params_none : (c : ℕ) (s : State) → IsWellFormed s → closed c (bring_each c s.own.params (changes s.own.params s.own.params)) ≡ []
 params_none c s h = ap (λ es. closed c (bring_each c s.own.params es))
@@ -93,7 +98,8 @@ ends_often : (x : List Msg) → (((x ++ []) ++ []) ++ []) ++ [] ≡ x
 ends_often x = append-nil (((x ++ []) ++ []) ++ []) ∙ ends_thrice x
 
 pub writes_nothing : (c : ℕ) (s : State) → IsWellFormed s → bring c s s ≡ []
-writes_nothing c s h = bring_by c s s [] [] [] [] [] [] (voice_none c s.own) (controls_none c 0 s.own.controls) (params_none c s h) (differs_none s.own.pressure (Pressure c s.own.pressure)) (differs_none s.own.bend (Bend c s.own.bend)) (keys_none c 0 s.keys)
+writes_nothing c s h =
+    bring_by c s s [] [] [] [] [] [] (voice_none c s.own) (controls_none c 0 s.own.controls) (params_none c s h) (differs_none s.own.pressure (Pressure c s.own.pressure)) (differs_none s.own.bend (Bend c s.own.bend)) (keys_none c 0 s.keys)
 
 -- ---- controllers
 
@@ -205,10 +211,12 @@ writes_high l c v s p h low t =
     let ps : List Entry = s.own.params in
     let w : ℕ × ℕ = (v, (value_of ps p).1) in
     let f = fits_value s p h t in
-    let r = put_changes l ps p w (h.canonical, h.entered) (record { small = f.0; settable = f.1; high = omega (arith, low); low = (value_bytes ps p h.entered).1 }) in
+    let r =
+    put_changes l ps p w (h.canonical, h.entered) (record { small = f.0; settable = f.1; high = omega (arith, low); low = (value_bytes ps p h.entered).1 }) in
     ap (bring c s) (high_step s s.own.selection ps c v p t)
     ∙ set_values l c s p w (cond (nat_eq (value_of ps p).0 v) [] (choose_parameter c p ++ Control c 6 v ∷ Control c 101 127 ∷ Control c 100 127 ∷ [])) h (elim r [
-      | inl k ↦ ap (λ es. closed c (bring_each c ps es)) k.1 ∙ ap (λ b. cond b [] (choose_parameter c p ++ Control c 6 v ∷ Control c 101 127 ∷ Control c 100 127 ∷ [])) (sym (eq-eqb (value_of ps p).0 v (ap (λ x. x.0) k.0)))
+      | inl k ↦ ap (λ es. closed c (bring_each c ps es)) k.1
+      ∙ ap (λ b. cond b [] (choose_parameter c p ++ Control c 6 v ∷ Control c 101 127 ∷ Control c 100 127 ∷ [])) (sym (eq-eqb (value_of ps p).0 v (ap (λ x. x.0) k.0)))
       | inr k ↦
           let d : nat_eq (value_of ps p).0 v ≡ false = ne_eqb (value_of ps p).0 v (λ x. k.0 (ap (λ y. (y, (value_of ps p).1)) x)) in
           ap (λ es. closed c (bring_each c ps es)) k.1
@@ -224,10 +232,12 @@ writes_low l c v s p h low t =
     let ps : List Entry = s.own.params in
     let w : ℕ × ℕ = ((value_of ps p).0, v) in
     let f = fits_value s p h t in
-    let r = put_changes l ps p w (h.canonical, h.entered) (record { small = f.0; settable = f.1; high = (value_bytes ps p h.entered).0; low = omega (arith, low) }) in
+    let r =
+    put_changes l ps p w (h.canonical, h.entered) (record { small = f.0; settable = f.1; high = (value_bytes ps p h.entered).0; low = omega (arith, low) }) in
     ap (bring c s) (low_step s s.own.selection ps c v p t)
     ∙ set_values l c s p w (cond (nat_eq (value_of ps p).1 v) [] (choose_parameter c p ++ Control c 38 v ∷ Control c 101 127 ∷ Control c 100 127 ∷ [])) h (elim r [
-      | inl k ↦ ap (λ es. closed c (bring_each c ps es)) k.1 ∙ ap (λ b. cond b [] (choose_parameter c p ++ Control c 38 v ∷ Control c 101 127 ∷ Control c 100 127 ∷ [])) (sym (eq-eqb (value_of ps p).1 v (ap (λ x. x.1) k.0)))
+      | inl k ↦ ap (λ es. closed c (bring_each c ps es)) k.1
+      ∙ ap (λ b. cond b [] (choose_parameter c p ++ Control c 38 v ∷ Control c 101 127 ∷ Control c 100 127 ∷ [])) (sym (eq-eqb (value_of ps p).1 v (ap (λ x. x.1) k.0)))
       | inr k ↦
           let d : nat_eq (value_of ps p).1 v ≡ false = ne_eqb (value_of ps p).1 v (λ x. k.0 (ap (λ y. ((value_of ps p).0, y)) x)) in
           ap (λ es. closed c (bring_each c ps es)) k.1

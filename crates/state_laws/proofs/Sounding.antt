@@ -137,7 +137,8 @@ turned_still m sel t c n v Ignored e h = refl
 
 notes_still : (m : Music) (t c : ℕ) (st : State) (msg : Msg) → OnlySets c st msg → is_still msg ≡ true
     → notes_after m t msg ≡ m.notes
-notes_still m t c st (Control d n v) h s = turned_still m st.own.selection t d n v (role n) (not-true (nat_eq n 66) (and_parts (not (nat_eq n 64)) (not (nat_eq n 66)) s).1) h.sets
+notes_still m t c st (Control d n v) h s =
+    turned_still m st.own.selection t d n v (role n) (not-true (nat_eq n 66) (and_parts (not (nat_eq n 64)) (not (nat_eq n 66)) s).1) h.sets
 notes_still m t c st (NoteOn d k v) h s = absurd (false≢true s)
 notes_still m t c st (NoteOff d k v) h s = absurd (false≢true s)
 notes_still m t c st (KeyPressure d k v) h s = absurd (false≢true s)
@@ -247,7 +248,9 @@ hold_pedal t ss c st ns x y low len e k = pick (nat_eq x y) refl
         let now : Channel = apply st.own (Control c 64 y) in
         let h : control_of now 64 ≡ y = get_or-set_same st.own.controls 64 y 0 (omega (arith, len)) in
         record {
-          music = one_step t ss c st ns (Control c 64 y) low (record { channel = refl; sets = refl }) ∙ ap (λ v. music_of ss c now (map (settled_by t ss c v) ns)) h;
+          music =
+              one_step t ss c st ns (Control c 64 y) low (record { channel = refl; sets = refl })
+              ∙ ap (λ v. music_of ss c now (map (settled_by t ss c v) ns)) h;
           hold = h;
           sostenuto = get_or-set_other st.own.controls 64 66 y 0 (λ i. omega (arith, i));
           length = length-set st.own.controls 64 y;
@@ -269,7 +272,8 @@ sostenuto_pedal t ss c st ns x y low e k = pick (nat_eq x y) refl
         × (control_of (apply_all st ms).own 64 ≡ control_of st.own 64))
     pick true f =
         let z : x ≡ y = eqb-true x y f in
-        let s : map (sostenuto no_zones c x y) ns ≡ ns = ap (λ w. map (sostenuto no_zones c x w) ns) (sym z) ∙ map_none (sostenuto no_zones c x x) ns (sostenuto_same no_zones c x) in
+        let s : map (sostenuto no_zones c x y) ns ≡ ns =
+        ap (λ w. map (sostenuto no_zones c x w) ns) (sym z) ∙ map_none (sostenuto no_zones c x x) ns (sostenuto_same no_zones c x) in
         (ap (λ l. music_of ss c st.own l) (sym (calm_map t ss c (control_of st.own 64) ns k)) ∙ ap (λ l. music_of ss c st.own (map (settled_by t ss c (control_of st.own 64)) l)) (sym s), refl)
     pick false f =
         let now : Channel = apply st.own (Control c 66 y) in
@@ -292,10 +296,12 @@ split_at (suc j) (x ∷ xs) h = ap (λ r. x ∷ r) (split_at j xs (omega (arith,
 
 pub controls_split : (c n i : ℕ) (a b d e : List ℕ) (x y : ℕ) → length a ≡ length d → n + length a ≡ i
     → bring_controls c n (a ++ x ∷ b) (d ++ y ∷ e) ≡ bring_controls c n a d ++ (where_differs x y (Control c i y) ++ bring_controls c (i + 1) b e)
-controls_split c n i [] b [] e x y l f = let z : n ≡ i = omega (arith, f) in ap (λ j. where_differs x y (Control c j y) ++ bring_controls c (j + 1) b e) z
+controls_split c n i [] b [] e x y l f =
+    let z : n ≡ i = omega (arith, f) in ap (λ j. where_differs x y (Control c j y) ++ bring_controls c (j + 1) b e) z
 controls_split c n i [] b (v ∷ d) e x y l f = absurd (omega (arith, l))
 controls_split c n i (u ∷ a) b [] e x y l f = absurd (omega (arith, l))
-controls_split c n i (u ∷ a) b (v ∷ d) e x y l f = ap (λ r. where_differs u v (Control c n v) ++ r) (controls_split c (n + 1) i a b d e x y (omega (arith, l)) (omega (arith, f)))
+controls_split c n i (u ∷ a) b (v ∷ d) e x y l f =
+    ap (λ r. where_differs u v (Control c n v) ++ r) (controls_split c (n + 1) i a b d e x y (omega (arith, l)) (omega (arith, f)))
     ∙ sym (append_assoc (where_differs u v (Control c n v)) (bring_controls c (n + 1) a d) (where_differs x y (Control c i y) ++ bring_controls c (i + 1) b e))
 
 pub controls_still : (c n : ℕ) (xs ys : List ℕ)

@@ -55,13 +55,15 @@ same_voice a b e =
 
 program_set : (s : State) (c : ℕ) (cs : List ℕ) (v : Voice) → get_or cs 0 0 ≡ v.high → get_or cs 32 0 ≡ v.low
     → apply_state (with_controls s cs) (Program c v.program) ≡ voiced s cs v
-program_set s c cs v h l = ap (λ x. voiced s cs (record { high = x; low = get_or cs 32 0; program = v.program })) h ∙ ap (λ x. voiced s cs (record v { low = x })) l
+program_set s c cs v h l =
+    ap (λ x. voiced s cs (record { high = x; low = get_or cs 32 0; program = v.program })) h ∙ ap (λ x. voiced s cs (record v { low = x })) l
 
 voice_by : (s : State) (c : ℕ) (v : Voice) (high low : Bool) → length s.own.controls ≡ 120
     → nat_eq (get_or s.own.controls 0 0) v.high ≡ high → nat_eq (get_or s.own.controls 32 0) v.low ≡ low
     → (let cs : List ℕ = s.own.controls in let one : List ℕ = cond high cs (set cs 0 v.high) in let two : List ℕ = cond low one (set one 32 v.low) in
     apply_all s ((cond high [] (Control c 0 v.high ∷ []) ++ cond low [] (Control c 32 v.low ∷ [])) ++ Program c v.program ∷ []) ≡ voiced s two v)
-voice_by s c v true true n h l = program_set s c s.own.controls v (eqb-true (get_or s.own.controls 0 0) v.high h) (eqb-true (get_or s.own.controls 32 0) v.low l)
+voice_by s c v true true n h l =
+    program_set s c s.own.controls v (eqb-true (get_or s.own.controls 0 0) v.high h) (eqb-true (get_or s.own.controls 32 0) v.low l)
 voice_by s c v true false n h l =
     let cs : List ℕ = s.own.controls in
     program_set s c (set cs 32 v.low) v (get_or-set_other cs 32 0 v.low 0 (λ x. omega (arith, x)) ∙ eqb-true (get_or cs 0 0) v.high h) (get_or-set_same cs 32 v.low 0 (omega (arith, n)))
@@ -113,7 +115,8 @@ controls_reach s c n K h (x ∷ xs) (y ∷ ys) e u =
         → apply_all (with_controls s (K (x ∷ xs))) (cond b [] (Control c n y ∷ []) ++ bring_controls c (n + 1) xs ys) ≡ with_controls s (K (y ∷ ys))
     pick true t first rest = ap (λ z. apply_all (with_controls s (K (z ∷ xs))) (bring_controls c (n + 1) xs ys)) (eqb-true x y t) ∙ rest
     pick false t first rest =
-        let stored : is_stored n ≡ true = true_from_ne_false (is_stored n) (λ f. false≢true (sym t ∙ ap (λ z. nat_eq z y) (u 0 (ap is_stored first ∙ f)) ∙ same y)) in
+        let stored : is_stored n ≡ true =
+        true_from_ne_false (is_stored n) (λ f. false≢true (sym t ∙ ap (λ z. nat_eq z y) (u 0 (ap is_stored first ∙ f)) ∙ same y)) in
         ap (λ z. apply_all z (bring_controls c (n + 1) xs ys)) (stored_step (with_controls s (K (x ∷ xs))) c n y stored ∙ ap (λ l. with_controls s l) (ap (λ j. set (K (x ∷ xs)) j y) (sym first) ∙ h (x ∷ xs) 0 y))
         ∙ rest
       where
@@ -139,13 +142,15 @@ keys_reach s c n K h (x ∷ xs) (y ∷ ys) e =
         → apply_all (with_keys s (K (y ∷ xs))) (bring_keys c (n + 1) xs ys) ≡ with_keys s (K (y ∷ ys))
         → apply_all (with_keys s (K (x ∷ xs))) (cond b [] (KeyPressure c n y ∷ []) ++ bring_keys c (n + 1) xs ys) ≡ with_keys s (K (y ∷ ys))
     pick true t first rest = ap (λ z. apply_all (with_keys s (K (z ∷ xs))) (bring_keys c (n + 1) xs ys)) (eqb-true x y t) ∙ rest
-    pick false t first rest = ap (λ l. apply_all (with_keys s l) (bring_keys c (n + 1) xs ys)) (ap (λ j. set (K (x ∷ xs)) j y) (sym first) ∙ h (x ∷ xs) 0 y) ∙ rest
+    pick false t first rest =
+        ap (λ l. apply_all (with_keys s l) (bring_keys c (n + 1) xs ys)) (ap (λ j. set (K (x ∷ xs)) j y) (sym first) ∙ h (x ∷ xs) 0 y) ∙ rest
 
 -- ---- the parameters
 
 -- the selection after a parameter was chosen
 abbrev pub choose : Selection → Parameter → Selection
-choose sel p = cond p.registered (record { registered = true; rpn = (p.high, p.low); nrpn = sel.nrpn }) (record { registered = false; rpn = sel.rpn; nrpn = (p.high, p.low) })
+choose sel p =
+    cond p.registered (record { registered = true; rpn = (p.high, p.low); nrpn = sel.nrpn }) (record { registered = false; rpn = sel.rpn; nrpn = (p.high, p.low) })
 
 abbrev pub chosen_all : Selection → List Entry → Selection
 chosen_all sel [] = sel
@@ -166,7 +171,8 @@ value_by_tests p false false true e = absurd cc
 value_by_tests p false false false e = refl
 
 target_value : (p : Parameter) → is_settable p ≡ true → target_in p.registered (p.high, p.low) ≡ Value p
-target_value p e = value_by_tests p (pair_eq (p.high, p.low) (127, 127)) (p.registered && pair_eq (p.high, p.low) (0, 3)) (p.registered && pair_eq (p.high, p.low) (0, 6)) e
+target_value p e =
+    value_by_tests p (pair_eq (p.high, p.low) (127, 127)) (p.registered && pair_eq (p.high, p.low) (0, 3)) (p.registered && pair_eq (p.high, p.low) (0, 6)) e
 
 choose_target_by : (sel : Selection) (b : Bool) (h l : ℕ) → (let p : Parameter = record { registered = b; high = h; low = l } in target (choose sel p) ≡ target_in b (h, l))
 choose_target_by sel true h l = refl

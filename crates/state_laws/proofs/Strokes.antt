@@ -28,13 +28,15 @@ turned_notes : (m : Music) (t c n v : ℕ) (s : Channel) → channel_at m c ≡ 
     → notes_turned m t c n v (role n) ≡ map (sostenuto no_zones c (control_of s 66) (control_of (apply s (Control c n v)) 66)) m.notes
 turned_notes m t c n v s here z e len =
     let r : role n ≡ Stored = stored_role (role n) e in
-    ap (notes_turned m t c n v) r ∙ by (nat_eq n 66) refl ∙ ap (λ x. map (sostenuto no_zones c (control_of s 66) (get_or x.controls 66 0)) m.notes) (sym (ap (controlled s n v) r))
+    ap (notes_turned m t c n v) r ∙ by (nat_eq n 66) refl
+    ∙ ap (λ x. map (sostenuto no_zones c (control_of s 66) (get_or x.controls 66 0)) m.notes) (sym (ap (controlled s n v) r))
   where
     by : (b : Bool) → nat_eq n 66 ≡ b
         → cond b (map (sostenuto m.zones c (control_of (channel_at m c) 66) v) m.notes) m.notes ≡ map (sostenuto no_zones c (control_of s 66) (get_or (set s.controls n v) 66 0)) m.notes
     by true e =
         let i : n ≡ 66 = eqb-true n 66 e in
-        let to : get_or (set s.controls n v) 66 0 ≡ v = ap (λ j. get_or (set s.controls j v) 66 0) i ∙ get_or-set_same s.controls 66 v 0 (omega (arith, len)) in
+        let to : get_or (set s.controls n v) 66 0 ≡ v =
+        ap (λ j. get_or (set s.controls j v) 66 0) i ∙ get_or-set_same s.controls 66 v 0 (omega (arith, len)) in
         ap (λ x. map (sostenuto x c (control_of (channel_at m c) 66) v) m.notes) z
         ∙ ap (λ x. map (sostenuto no_zones c (control_of x 66) v) m.notes) here
         ∙ ap (λ x. map (sostenuto no_zones c (control_of s 66) x) m.notes) (sym to)
@@ -97,8 +99,10 @@ swap z c a b n =
     let w : Bool = nat_eq n.channel c && sounds n in
     let da : Bool = is_pedal_down a in
     let db : Bool = is_pedal_down b in
-    let first : without_pressure c (sostenuto z c a b n) ≡ muted w (sostenuto z c a b n) = ap (λ y. muted y (sostenuto z c a b n)) (sostenuto_keeps (λ y. nat_eq y.channel c && sounds y) z c a b n (λ d. refl)) in
-    let g : (nat_eq (governor z x.channel) c && sounds x) ≡ (nat_eq (governor z n.channel) c && sounds n) = muted_keeps (λ y. nat_eq (governor z y.channel) c && sounds y) c n (λ p. refl) in
+    let first : without_pressure c (sostenuto z c a b n) ≡ muted w (sostenuto z c a b n) =
+    ap (λ y. muted y (sostenuto z c a b n)) (sostenuto_keeps (λ y. nat_eq y.channel c && sounds y) z c a b n (λ d. refl)) in
+    let g : (nat_eq (governor z x.channel) c && sounds x) ≡ (nat_eq (governor z n.channel) c && sounds n) =
+    muted_keeps (λ y. nat_eq (governor z y.channel) c && sounds y) c n (λ p. refl) in
     let d : (db && is_down x) ≡ (db && is_down n) = muted_keeps (λ y. db && is_down y) c n (λ p. refl) in
     first ∙ tests_swap w (nat_eq (governor z n.channel) c && sounds n) da db (db && is_down n) n
     ∙ ap (λ y. by_tests y da db (db && is_down n) x) (sym g) ∙ ap (λ y. by_tests (nat_eq (governor z x.channel) c && sounds x) da db y x) (sym d)
@@ -120,7 +124,8 @@ reset_sostenuto xs h =
     let two : List ℕ = set one 11 127 in
     let three : List ℕ = set two 64 0 in
     let four : List ℕ = set three 65 0 in
-    get_or-set_other (set four 66 0) 67 66 0 0 (λ x. omega (arith, x)) ∙ get_or-set_same four 66 0 0 (omega (arith, h, length-set three 65 0, length-set two 64 0, length-set one 11 127, length-set xs 1 0))
+    get_or-set_other (set four 66 0) 67 66 0 0 (λ x. omega (arith, x))
+    ∙ get_or-set_same four 66 0 0 (omega (arith, h, length-set three 65 0, length-set two 64 0, length-set one 11 127, length-set xs 1 0))
 
 pub reset_strokes : (m : Music) (t track c v : ℕ) → IsSettled m → m.zones ≡ no_zones → c ≤ 15
     → length (channel_at m c).controls ≡ 120

@@ -39,7 +39,9 @@ default_by p q e = ap (λ n. cond (nat_eq n 0) (2, 0) (cond (nat_eq n 5) (0, 64)
 
 pub value_by : (es : List Entry) (p q : Parameter) → rank p ≡ rank q → value_of es p ≡ value_of es q
 value_by [] p q e = default_by p q e
-value_by (x ∷ es) p q e = ap (λ v. cond (nat_eq (rank x.parameter) (rank p)) x.value v) (value_by es p q e) ∙ ap (λ n. cond (nat_eq (rank x.parameter) n) x.value (value_of es q)) e
+value_by (x ∷ es) p q e =
+    ap (λ v. cond (nat_eq (rank x.parameter) (rank p)) x.value v) (value_by es p q e)
+    ∙ ap (λ n. cond (nat_eq (rank x.parameter) n) x.value (value_of es q)) e
 
 -- an entry isn't its default
 pub not_default : (e : Entry) (es : List Entry) → IsCanonical (e ∷ es) → e.value ≢ default_value e.parameter
@@ -71,7 +73,8 @@ misses_append n (e ∷ es) b h k = (h.0, misses_append n es b h.1 k)
 
 pub misses_filter : (n : ℕ) (p : Entry → Bool) (es : List Entry) → Misses n es → Misses n (filter p es)
 misses_filter n p [] h = tt
-misses_filter n p (e ∷ es) h = cond_both (p e) (e ∷ filter p es) (filter p es) (Misses n) (λ _. (h.0, misses_filter n p es h.1)) (λ _. misses_filter n p es h.1)
+misses_filter n p (e ∷ es) h =
+    cond_both (p e) (e ∷ filter p es) (filter p es) (Misses n) (λ _. (h.0, misses_filter n p es h.1)) (λ _. misses_filter n p es h.1)
 
 pub misses_default : (n : ℕ) (es : List Entry) → Misses n es → Misses n (map made_default es)
 misses_default n [] h = tt
@@ -79,7 +82,8 @@ misses_default n (e ∷ es) h = (h.0, misses_default n es h.1)
 
 pub apart_filter : (p : Entry → Bool) (es : List Entry) → IsCanonical es → Apart (filter p es)
 apart_filter p [] h = tt
-apart_filter p (e ∷ es) h = cond_both (p e) (e ∷ filter p es) (filter p es) Apart (λ _. (misses_filter (rank e.parameter) p es (misses_above (rank e.parameter) es h.1), apart_filter p es h.2)) (λ _. apart_filter p es h.2)
+apart_filter p (e ∷ es) h =
+    cond_both (p e) (e ∷ filter p es) (filter p es) Apart (λ _. (misses_filter (rank e.parameter) p es (misses_above (rank e.parameter) es h.1), apart_filter p es h.2)) (λ _. apart_filter p es h.2)
 
 pub apart_default : (es : List Entry) → Apart es → Apart (map made_default es)
 apart_default [] h = tt
@@ -145,7 +149,8 @@ others_set now (e ∷ es) q h = elim (cases_eq (rank e.parameter) (rank q)) [
     hit false k x = found_or e (filter (wants_other now) es) (value_of now q) q x
     hit true k x =
         let m : Misses (rank q) es = subst (λ (n : ℕ). Misses n es) x (misses_above (rank e.parameter) es h.1) in
-        value_or-missed (filter (wants_other now) es) (value_of now q) q (misses_filter (rank q) (wants_other now) es m) ∙ value_by now q e.parameter (sym x) ∙ pair_eq-true (value_of now e.parameter) e.value k
+        value_or-missed (filter (wants_other now) es) (value_of now q) q (misses_filter (rank q) (wants_other now) es m)
+        ∙ value_by now q e.parameter (sym x) ∙ pair_eq-true (value_of now e.parameter) e.value k
 
 -- those whose wanted value is the default: another value stays, or the default is wanted
 pub defaults_leave : (wanted es : List Entry) (d : ℕ × ℕ) (q : Parameter) → (let r : ℕ × ℕ = value_or (map made_default (filter (wants_default wanted) es)) d q in
@@ -170,10 +175,12 @@ pub defaults_set : (wanted es : List Entry) (q : Parameter) → value_of wanted 
 defaults_set wanted [] q h = refl
 defaults_set wanted (e ∷ es) q h = elim (cases_eq (rank e.parameter) (rank q)) [
   | inl x ↦
-      let t : wants_default wanted e ≡ true = pair_eq-same (value_of wanted e.parameter) (default_value e.parameter) (value_by wanted e.parameter q x ∙ h ∙ default_by q e.parameter (sym x)) in
+      let t : wants_default wanted e ≡ true =
+      pair_eq-same (value_of wanted e.parameter) (default_value e.parameter) (value_by wanted e.parameter q x ∙ h ∙ default_by q e.parameter (sym x)) in
       ap (λ b. value_or (map made_default (cond b (e ∷ filter (wants_default wanted) es) (filter (wants_default wanted) es))) (value_of (e ∷ es) q) q) t
       ∙ found_or (made_default e) (map made_default (filter (wants_default wanted) es)) (value_of (e ∷ es) q) q x ∙ default_by e.parameter q x
-  | inr x ↦ past (wants_default wanted e) x ∙ ap (λ d. value_or (map made_default (filter (wants_default wanted) es)) d q) (skip e es q x) ∙ defaults_set wanted es q h
+  | inr x ↦ past (wants_default wanted e) x
+  ∙ ap (λ d. value_or (map made_default (filter (wants_default wanted) es)) d q) (skip e es q x) ∙ defaults_set wanted es q h
 ]
   where
     past : (b : Bool) → rank e.parameter ≢ rank q
@@ -218,7 +225,8 @@ misses_defaults wanted (e ∷ es) q h = pick (wants_default wanted e) (misses_de
     pick : (b : Bool) → Misses (rank q) (map made_default (filter (wants_default wanted) es)) → wants_default wanted e ≡ b
         → Misses (rank q) (map made_default (cond b (e ∷ filter (wants_default wanted) es) (filter (wants_default wanted) es)))
     pick false ih k = ih
-    pick true ih k = (λ x. h (value_by wanted q e.parameter (sym x) ∙ pair_eq-true (value_of wanted e.parameter) (default_value e.parameter) k ∙ default_by e.parameter q x), ih)
+    pick true ih k =
+        (λ x. h (value_by wanted q e.parameter (sym x) ∙ pair_eq-true (value_of wanted e.parameter) (default_value e.parameter) k ∙ default_by e.parameter q x), ih)
 
 either_misses : (now wanted : List Entry) (q : Parameter) → IsCanonical wanted
     → Misses (rank q) (to_default now wanted) ⊎ Misses (rank q) (to_other now wanted)
@@ -237,7 +245,8 @@ changes_apart now wanted hn hw = apart_append (to_default now wanted) (to_other 
 
 entered_filter : (p : Entry → Bool) (es : List Entry) → AreEntered es → AreEntered (filter p es)
 entered_filter p [] h = tt
-entered_filter p (e ∷ es) h = cond_both (p e) (e ∷ filter p es) (filter p es) AreEntered (λ _. (h.0, entered_filter p es h.1)) (λ _. entered_filter p es h.1)
+entered_filter p (e ∷ es) h =
+    cond_both (p e) (e ∷ filter p es) (filter p es) AreEntered (λ _. (h.0, entered_filter p es h.1)) (λ _. entered_filter p es h.1)
 
 entered_default : (es : List Entry) → AreEntered es → AreEntered (map made_default es)
 entered_default [] h = tt
