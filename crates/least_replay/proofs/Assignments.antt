@@ -24,11 +24,14 @@ found place c (suc n) a h = elim (same_or_not (place n) c) [
       let f : n ≡ a = some_same n a (sym (at_last place c n e) ∙ h) in
       (omega (arith, f), subst (λ (x : ℕ). place x ≡ c) f e, λ x ax xn. absurd (omega (arith, f, ax, xn)))
   | inr d ↦
-      let o = found place c n a (sym (not_last place c n d) ∙ h) in
-      (omega (arith, o.0), o.1, λ x ax xn. elim (same_or_not x n) [
-        | inl e ↦ subst (λ (y : ℕ). place y ≢ c) (sym e) d
-        | inr g ↦ o.2 x ax (omega (arith, xn, g))
-      ])
+      let o = found place c n a (sym (not_last place c n d) ∙ h) in (
+        omega (arith, o.0),
+        o.1,
+        λ x ax xn. elim (same_or_not x n) [
+          | inl e ↦ subst (λ (y : ℕ). place y ≢ c) (sym e) d
+          | inr g ↦ o.2 x ax (omega (arith, xn, g))
+        ],
+      )
 ]
 
 -- where nothing is found no run before is on the place

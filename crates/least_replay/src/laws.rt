@@ -6,27 +6,18 @@ ghost use Rattle.least_replay.specs.Cover.{Table, IsCover, IsGood, IsLeast, pric
 /// Where a certificate is good, no cover is cheaper.
 pub fn good_is_least()
     ensures { (t : Table) (u v : List ℤ) (p : ℕ) → IsGood t u v p → IsLeast t p }
-{
-}
+{}
 
 /// An assignment that keeps each run on one place is a cover of the same price.
 pub fn assignments_are_covers()
-    ensures cover {
-        (t : Table) (first last place : ℕ → ℕ) → AreRuns t first last →
-        IsAssignment t first last place → IsCover t (chains_from place 0 t.runs)
-    }
-    ensures cost {
-        (t : Table) (place : ℕ → ℕ) → price t (chains_from place 0 t.runs) ≡ assignment_cost t place
-    }
-{
-}
+    ensures cover { (t : Table) (first last place : ℕ → ℕ) → AreRuns t first last →
+        IsAssignment t first last place → IsCover t (chains_from place 0 t.runs) }
+    ensures cost { (t : Table) (place : ℕ → ℕ) → price t (chains_from place 0 t.runs) ≡ assignment_cost t place }
+{}
 
 /// Where a certificate is good, no assignment that keeps each run on one place costs less.
 pub fn no_assignment_costs_less()
-    ensures {
-        (t : Table) (u v : List ℤ) (p : ℕ) → IsGood t u v p →
+    ensures { (t : Table) (u v : List ℤ) (p : ℕ) → IsGood t u v p →
         (first last place : ℕ → ℕ) → AreRuns t first last → IsAssignment t first last place →
-        p ≤ assignment_cost t place
-    }
-{
-}
+        p ≤ assignment_cost t place }
+{}

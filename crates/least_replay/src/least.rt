@@ -1,3 +1,4 @@
+//! The cover that costs least.
 ghost use Rattle.std.specs.Prelude.{◌≡◌, ◌++◌, map, pos, IfOk};
 ghost use Rattle.least_replay.specs.Columns.{before_of};
 ghost use Rattle.least_replay.specs.Cover.{IsLeast};
@@ -14,14 +15,15 @@ use std::alloc::Global;
 fn predecessor(runs: u16, j: usize) -> Option<u16>
     ensures { result ≡ before_of runs j }
 {
-    if j < runs as usize { Some(j as u16) } else { None }
+    if j < runs as usize {
+        Some(j as u16)
+    } else {
+        None
+    }
 }
 
-fn predecessors(
-    alloc: Global,
-    runs: u16,
-    col_of: &[usize],
-) -> Result<Vec<Option<u16>>, Memory>
+/// The run before each, by its column.
+fn predecessors(alloc: Global, runs: u16, col_of: &[usize]) -> Result<Vec<Option<u16>>, Memory>
     ensures { IfOk result (λ before. before.items ≡ map (before_of runs) col_of.now) }
 {
     let mut before = Vec::new(alloc);
@@ -31,6 +33,7 @@ fn predecessors(
     Ok(before)
 }
 
+/// Puts numbers at the end of a list.
 fn append_signed(out: &mut Vec<i64>, xs: &[u32]) -> Result<(), Memory>
     ensures { IfOk result (λ done. out.new.items ≡ out.old.items ++ map pos xs.now) }
 {
@@ -40,7 +43,8 @@ fn append_signed(out: &mut Vec<i64>, xs: &[u32]) -> Result<(), Memory>
     Ok(())
 }
 
-/// A cover that costs least, with its certificate.
+/// A cover that costs least, with its certificate, which `confirm` takes. The only fault is want of
+/// memory.
 pub fn least_cover(alloc: Global, costs: &Costs) -> Result<Cover, Memory>
     ensures confirmed { IfOk result (λ cover. IsConfirmed costs.now cover) }
     ensures least { IfOk result (λ cover. IsLeast (table_of costs.now) cover.price) }

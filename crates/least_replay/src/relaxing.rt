@@ -37,9 +37,8 @@ pub fn begin(costs: &Costs, b: usize, v: &[u32], slack: &mut [u32])
     requires end { (table_of costs.now).runs ≤ b }
     requires columns { length slack.old ≤ length v.now }
     requires low { (j : ℕ) → at v.now j ≤ 2000000391 }
-    ensures near {
-        (j : ℕ) → j < length slack.new → at slack.new j ≡ weight (table_of costs.now) b j + at v.now j
-    }
+    ensures near { (j : ℕ) → j < length slack.new →
+        at slack.new j ≡ weight (table_of costs.now) b j + at v.now j }
 {
     for j in 0..slack.len() {
         slack[j] = weigh_end(costs, b, j) + v[j];
@@ -80,10 +79,8 @@ fn relax_step(
     requires v_low { v ≤ 2000000391 }
     requires near { at slack.old j ≤ 2000000000 + v }
     requires fits { u ≤ step gap (told cost) + v }
-    ensures relaxed {
-        IsRelaxed size u (step gap (told cost) + v) (at slack.old j) (at slack.new j) (at from.old j)
-        (at from.new j)
-    }
+    ensures relaxed { IsRelaxed size u (step gap (told cost) + v) (at slack.old j) (at slack.new j) (at from.old j)
+        (at from.new j) }
     ensures slack_still { (i : ℕ) → i ≢ j → at slack.new i ≡ at slack.old i }
     ensures from_still { (i : ℕ) → i ≢ j → at from.new i ≡ at from.old i }
 {
@@ -95,23 +92,13 @@ fn relax_step(
 }
 
 /// Brings a column as near as it is to a row that costs `cost` there.
-fn relax_one(
-    cost: u32,
-    u: u32,
-    v: u32,
-    size: u32,
-    j: usize,
-    slack: &mut [u32],
-    from: &mut [u32],
-)
+fn relax_one(cost: u32, u: u32, v: u32, size: u32, j: usize, slack: &mut [u32], from: &mut [u32])
     requires column { j < length slack.old }
     requires from_columns { length from.old ≡ length slack.old }
     requires cost_low { cost ≤ 2000000391 }
     requires v_low { v ≤ 2000000391 }
     requires fits { u ≤ cost + v }
-    ensures relaxed {
-        IsRelaxed size u (cost + v) (at slack.old j) (at slack.new j) (at from.old j) (at from.new j)
-    }
+    ensures relaxed { IsRelaxed size u (cost + v) (at slack.old j) (at slack.new j) (at from.old j) (at from.new j) }
     ensures slack_still { (i : ℕ) → i ≢ j → at slack.new i ≡ at slack.old i }
     ensures from_still { (i : ℕ) → i ≢ j → at from.new i ≡ at from.old i }
 {
@@ -140,10 +127,8 @@ fn relax_behind(
     requires v_low { (j : ℕ) → at v.now j ≤ 2000000391 }
     requires near { (j : ℕ) → at slack.old j ≤ 2000000000 + at v.now j }
     requires fits { (j : ℕ) → j < length slack.old → u ≤ weight (table_of costs.now) r j + at v.now j }
-    ensures {
-        IsNearer (table_of costs.now) r 0 r size u v.now
-        slack.old slack.new from.old from.new
-    }
+    ensures { IsNearer (table_of costs.now) r 0 r size u v.now
+        slack.old slack.new from.old from.new }
 {
     let row = costs.row(r);
     for a in 0..row.len() {
@@ -168,10 +153,8 @@ fn relax_from(
     requires from_columns { length from.old ≡ length slack.old }
     requires v_low { (j : ℕ) → at v.now j ≤ 2000000391 }
     requires fits { (j : ℕ) → j < length slack.old → u ≤ weight (table_of costs.now) r j + at v.now j }
-    ensures {
-        IsNearer (table_of costs.now) r first (length slack.old) size u v.now
-        slack.old slack.new from.old from.new
-    }
+    ensures { IsNearer (table_of costs.now) r first (length slack.old) size u v.now
+        slack.old slack.new from.old from.new }
 {
     for j in first..slack.len() {
         relax_one(weigh_apart(costs, r, j), u, v[j], size, j, slack, from);
@@ -209,14 +192,21 @@ fn relax_run(
     requires v_low { (j : ℕ) → at v.now j ≤ 2000000391 }
     requires near { (j : ℕ) → at slack.old j ≤ 2000000000 + at v.now j }
     requires fits { (j : ℕ) → j < length slack.old → u ≤ weight (table_of costs.now) r j + at v.now j }
-    ensures {
-        IsNearer (table_of costs.now) r 0 (length slack.old) size u v.now
-        slack.old slack.new from.old from.new
-    }
+    ensures { IsNearer (table_of costs.now) r 0 (length slack.old) size u v.now
+        slack.old slack.new from.old from.new }
 {
     relax_behind(costs, r, u, v, size, slack, from);
     relax_one(0, u, v[r as usize], size, r as usize, slack, from);
-    relax_from(costs, r as usize, costs.runs() as usize, u, v, size, slack, from);
+    relax_from(
+        costs,
+        r as usize,
+        costs.runs() as usize,
+        u,
+        v,
+        size,
+        slack,
+        from,
+    );
 }
 
 /// Brings the columns as near as they are to a row that has come into the tree.
@@ -236,10 +226,8 @@ pub fn relax(
     requires v_low { (j : ℕ) → at v.now j ≤ 2000000391 }
     requires near { (j : ℕ) → at slack.old j ≤ 2000000000 + at v.now j }
     requires fits { (j : ℕ) → j < length slack.old → u ≤ weight (table_of costs.now) r j + at v.now j }
-    ensures {
-        IsNearer (table_of costs.now) r 0 (length slack.old) size u v.now
-        slack.old slack.new from.old from.new
-    }
+    ensures { IsNearer (table_of costs.now) r 0 (length slack.old) size u v.now
+        slack.old slack.new from.old from.new }
 {
     if r < costs.runs() as usize {
         relax_run(costs, r as u16, u, v, size, slack, from);

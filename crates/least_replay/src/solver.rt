@@ -5,8 +5,8 @@ ghost use Rattle.least_replay.specs.CostView.{table_of};
 ghost use Rattle.least_replay.specs.Tree.{at, IsMoved, IsFilled};
 
 use crate::costs::Costs;
-use crate::tree::grow;
 use crate::relaxing::{begin, count_over, weigh_end};
+use crate::tree::grow;
 use mt_base::Memory;
 use std::alloc::Global;
 
@@ -24,7 +24,8 @@ fn move_on(
     requires rows_whole { at rows.now (at from.now hole) < length col_of.old }
     requires columns_whole { at col_of.old (at rows.now (at from.now hole)) < length from.now }
     ensures value { result ≡ at col_of.old (at rows.now (at from.now hole)) }
-    ensures moved { IsMoved (at rows.now (at from.now hole)) hole result row_of.old row_of.new col_of.old col_of.new }
+    ensures moved { IsMoved (at rows.now (at from.now hole)) hole result row_of.old row_of.new col_of.old
+        col_of.new }
 {
     let r = rows[from[hole] as usize];
     let j = col_of[r];
@@ -61,7 +62,8 @@ fn turn(
     requires columns_whole { length col_of.old ≡ all_columns (table_of costs.now) }
     requires from_whole { length from.now ≡ b + 1 }
     requires rows_whole { length row_of.old ≡ all_columns (table_of costs.now) }
-    requires hole { IsWaiting (table_of costs.now) b u.now v.now row_of.old col_of.old rows.now place.now from.now end }
+    requires hole { IsWaiting (table_of costs.now) b u.now v.now row_of.old col_of.old rows.now place.now
+        from.now end }
     ensures { IsPaired (table_of costs.now) (b + 1) u.now v.now row_of.new col_of.new }
 {
     let mut hole = end;
@@ -94,7 +96,8 @@ fn plant(
     requires root { at rows.now 0 ≡ b }
     requires outside { (j : ℕ) → at place.now j ≡ 0 }
     requires from_root { (j : ℕ) → at from.now j ≡ 0 }
-    ensures { IsGrowing (table_of costs.now) b u.new v.now row_of.now col_of.now rows.now place.now from.now slack.new }
+    ensures { IsGrowing (table_of costs.now) b u.new v.now row_of.now col_of.now rows.now place.now
+        from.now slack.new }
 {
     begin(costs, b, v, slack);
     u[b] = 0;
@@ -128,7 +131,8 @@ fn insert_with(
     requires outside { (j : ℕ) → at place.old j ≡ 0 }
     requires from_root { (j : ℕ) → at from.old j ≡ 0 }
     requires room { outside_count place.old ≤ length slack.old }
-    ensures { IfOk result (λ done. IsPaired (table_of costs.now) (b + 1) u.new v.new row_of.new col_of.new) }
+    ensures { IfOk result (λ done. IsPaired (table_of costs.now) (b + 1) u.new v.new row_of.new
+        col_of.new) }
 {
     plant(
         costs,
@@ -175,7 +179,8 @@ fn insert(
     requires v_whole { length v.old ≡ all_columns (table_of costs.now) }
     requires rows_whole { length row_of.old ≡ all_columns (table_of costs.now) }
     requires matched { IsPaired (table_of costs.now) b u.old v.old row_of.old col_of.old }
-    ensures { IfOk result (λ done. IsPaired (table_of costs.now) (b + 1) u.new v.new row_of.new col_of.new) }
+    ensures { IfOk result (λ done. IsPaired (table_of costs.now) (b + 1) u.new v.new row_of.new
+        col_of.new) }
 {
     let columns = b + 1;
     let mut rows = vec![in alloc; b]?;
@@ -217,13 +222,10 @@ fn lower_rows(u: &mut [u32], runs: usize, least: u32)
 /// Takes what the first end has from what an end's row reaches at each column.
 fn lower_columns(costs: &Costs, v: &mut [u32], least: u32)
     requires low { (j : ℕ) → at v.old j ≤ 2000000391 }
-    requires room {
-        (j : ℕ) → j < length v.old → least ≤ weight (table_of costs.now) (table_of costs.now).runs j + at v.old j
-    }
-    ensures {
-        (j : ℕ) → j < length v.old →
-        at v.new j + least ≡ weight (table_of costs.now) (table_of costs.now).runs j + at v.old j
-    }
+    requires room { (j : ℕ) → j < length v.old →
+        least ≤ weight (table_of costs.now) (table_of costs.now).runs j + at v.old j }
+    ensures { (j : ℕ) → j < length v.old →
+        at v.new j + least ≡ weight (table_of costs.now) (table_of costs.now).runs j + at v.old j }
 {
     let runs = costs.runs() as usize;
     for j in 0..v.len() {
@@ -268,10 +270,8 @@ fn take_in(
     requires u_zero { (b : ℕ) → at u.old b ≡ 0 }
     requires v_zero { (j : ℕ) → at v.old j ≡ 0 }
     requires none { (j : ℕ) → get_or row_of.old j None ≡ None }
-    ensures {
-        IfOk result (λ done. IsSettled (table_of costs.now) (take (table_of costs.now).runs u.new)
-        v.new (take (table_of costs.now).runs col_of.new))
-    }
+    ensures { IfOk result (λ done. IsSettled (table_of costs.now) (take (table_of costs.now).runs u.new)
+        v.new (take (table_of costs.now).runs col_of.new)) }
 {
     let runs = costs.runs() as usize;
     let columns = runs + costs.starts() as usize;
@@ -289,10 +289,8 @@ fn take_in(
 pub fn solve(alloc: Global, costs: &Costs) -> Result<Solution, Memory>
     ensures u_whole { IfOk result (λ s. length s.u.items ≡ all_columns (table_of costs.now)) }
     ensures columns_whole { IfOk result (λ s. length s.col_of.items ≡ all_columns (table_of costs.now)) }
-    ensures settled {
-        IfOk result (λ s. IsSettled (table_of costs.now) (take (table_of costs.now).runs s.u.items)
-        s.v.items (take (table_of costs.now).runs s.col_of.items))
-    }
+    ensures settled { IfOk result (λ s. IsSettled (table_of costs.now) (take (table_of costs.now).runs s.u.items)
+        s.v.items (take (table_of costs.now).runs s.col_of.items)) }
 {
     let columns = costs.runs() as usize + costs.starts() as usize;
     let mut u = vec![in alloc; 0u32; columns]?;

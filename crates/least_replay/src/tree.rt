@@ -20,9 +20,7 @@ fn scan(place: &[u32], slack: &[u32], first: usize, last: usize, best: usize) ->
     ensures within { result < length slack.now }
     ensures outside { at place.now result ≡ 0 }
     ensures no_farther { at slack.now result ≤ at slack.now best }
-    ensures least {
-        (j : ℕ) → first ≤ j → j < last → at place.now j ≡ 0 → at slack.now result ≤ at slack.now j
-    }
+    ensures least { (j : ℕ) → first ≤ j → j < last → at place.now j ≡ 0 → at slack.now result ≤ at slack.now j }
 {
     let mut nearest = best;
     let mut least = slack[best];
@@ -49,9 +47,7 @@ fn nearest(place: &[u32], slack: &[u32], came: usize) -> usize
     requires spare { at place.now (length slack.now - 1) ≡ 0 }
     ensures within { result < length slack.now }
     ensures outside { at place.now result ≡ 0 }
-    ensures least {
-        (j : ℕ) → j < length slack.now → at place.now j ≡ 0 → at slack.now result ≤ at slack.now j
-    }
+    ensures least { (j : ℕ) → j < length slack.now → at place.now j ≡ 0 → at slack.now result ≤ at slack.now j }
 {
     let best = scan(place, slack, 0, came, slack.len() - 1);
     scan(place, slack, came, slack.len(), best)
@@ -90,7 +86,8 @@ fn raise_columns(v: &mut [u32], slack: &mut [u32], place: &[u32], by: u32)
     ensures up { (j : ℕ) → 0 < at place.now j → at v.new j ≡ at v.old j + by }
     ensures still { (j : ℕ) → at place.now j ≡ 0 → at v.new j ≡ at v.old j }
     ensures slack_still { (j : ℕ) → 0 < at place.now j → at slack.new j ≡ at slack.old j }
-    ensures nearer { (j : ℕ) → j < length slack.old → at place.now j ≡ 0 → at slack.new j + by ≡ at slack.old j }
+    ensures nearer { (j : ℕ) → j < length slack.old → at place.now j ≡ 0 → at slack.new j + by ≡ at slack.old
+        j }
 {
     for j in 0..slack.len() {
         v[j] += share(place[j], by, 0);
@@ -117,7 +114,8 @@ fn raise(
     requires u_low { (r : ℕ) → r < b + 1 → at u.old r ≤ 2000000391 }
     requires v_low { (j : ℕ) → at v.old j ≤ 2000000391 }
     requires near { (j : ℕ) → j < length slack.old → at place.now j ≡ 0 → by ≤ at slack.old j }
-    ensures { IsRaised b (length slack.old) by col_of.now place.now u.old u.new v.old v.new slack.old slack.new }
+    ensures { IsRaised b (length slack.old) by col_of.now place.now u.old u.new v.old v.new slack.old
+        slack.new }
 {
     if by == 0 {
         return;
@@ -149,8 +147,10 @@ fn approach(
     requires rows_whole { length row_of.now ≡ all_columns (table_of costs.now) }
     requires place_whole { length place.now ≡ length slack.old }
     requires came_within { came < length slack.old }
-    requires tree { IsGrowing (table_of costs.now) b u.old v.old row_of.now col_of.now rows.now place.now from.now slack.old }
-    ensures tree { IsGrowing (table_of costs.now) b u.new v.new row_of.now col_of.now rows.now place.now from.now slack.new }
+    requires tree { IsGrowing (table_of costs.now) b u.old v.old row_of.now col_of.now rows.now place.now
+        from.now slack.old }
+    ensures tree { IsGrowing (table_of costs.now) b u.new v.new row_of.now col_of.now rows.now place.now
+        from.now slack.new }
     ensures within { result < length slack.new }
     ensures outside { at place.now result ≡ 0 }
     ensures tightly { at slack.new result ≡ 0 }
@@ -183,14 +183,17 @@ fn join(
     requires v_whole { length v.now ≡ all_columns (table_of costs.now) }
     requires place_whole { length place.old ≡ length slack.old }
     requires from_whole { length from.old ≡ length slack.old }
-    requires tree { IsGrowing (table_of costs.now) b u.now v.now row_of.now col_of.now rows.old.items place.old from.old slack.old }
+    requires tree { IsGrowing (table_of costs.now) b u.now v.now row_of.now col_of.now rows.old.items
+        place.old from.old slack.old }
     requires within { j < length slack.old }
     requires outside { at place.old j ≡ 0 }
     requires tightly { at slack.old j ≡ 0 }
     requires held { row_at row_of.now j ≡ Some r }
     requires room { length rows.old.items + outside_count place.old ≤ length slack.old + 1 }
-    ensures tree { IfOk result (λ done. IsGrowing (table_of costs.now) b u.now v.now row_of.now col_of.now rows.new.items place.new from.new slack.new) }
-    ensures room { IfOk result (λ done. length rows.new.items + outside_count place.new ≤ length slack.new + 1) }
+    ensures tree { IfOk result (λ done. IsGrowing (table_of costs.now) b u.now v.now row_of.now col_of.now
+        rows.new.items place.new from.new slack.new) }
+    ensures room { IfOk result (λ done. length rows.new.items + outside_count place.new ≤ length slack.new +
+        1) }
     ensures fewer { IfOk result (λ done. outside_count place.new < outside_count place.old) }
 {
     let size = rows.len() as u32;
@@ -223,8 +226,10 @@ pub fn grow(
     requires place_whole { length place.old ≡ length slack.old }
     requires from_whole { length from.old ≡ length slack.old }
     requires room { length rows.old.items + outside_count place.old ≤ length slack.old + 1 }
-    requires tree { IsGrowing (table_of costs.now) b u.old v.old row_of.now col_of.now rows.old.items place.old from.old slack.old }
-    ensures { IfOk result (λ j. IsWaiting (table_of costs.now) b u.new v.new row_of.now col_of.now rows.new.items place.new from.new j) }
+    requires tree { IsGrowing (table_of costs.now) b u.old v.old row_of.now col_of.now rows.old.items
+        place.old from.old slack.old }
+    ensures { IfOk result (λ j. IsWaiting (table_of costs.now) b u.new v.new row_of.now col_of.now
+        rows.new.items place.new from.new j) }
 {
     let mut came = b;
     loop {
@@ -250,4 +255,3 @@ pub fn grow(
         }
     }
 }
-

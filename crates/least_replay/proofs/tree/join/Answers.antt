@@ -17,8 +17,11 @@ offset_bounds-u-r c =
 
 pub relax-requires-clause-u_low : goal.relax-requires-clause-u_low
 relax-requires-clause-u_low c =
-    omega (arith, c.requires.tree.matched.low c.args.r (c.requires.tree.matched.of_column c.args.j c.args.r c.requires.held).0,
-      top_low (table_of c.args.costs.now) c.args.costs.now.low c.args.costs.now.matrix.few c.args.r)
+    omega (
+      arith,
+      c.requires.tree.matched.low c.args.r (c.requires.tree.matched.of_column c.args.j c.args.r c.requires.held).0,
+      top_low (table_of c.args.costs.now) c.args.costs.now.low c.args.costs.now.matrix.few c.args.r,
+    )
 
 pub relax-requires-clause-v_low : goal.relax-requires-clause-v_low
 relax-requires-clause-v_low c = low_v _ _ _ _ _ _ _ _ _ _ _ _ c.requires.tree 2000000391 (top_low (table_of c.args.costs.now) c.args.costs.now.low c.args.costs.now.matrix.few)
