@@ -44,3 +44,5 @@ pub mod LiveNotes
 pub mod LiveSame
 pub mod LiveFile
 pub mod Instances
+pub mod PlaceByPlace
+pub mod Drumless

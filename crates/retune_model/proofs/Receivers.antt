@@ -55,7 +55,7 @@ pub record PlaysTheSameMusic (scaling : Scaling) (o : Options) (table : ℕ → 
   pub beginnings : BeginsTheSame scaling o (is_retuned (keeps_drums o source)) source out
 
 -- ---- by events
-pairwise_weaker : {A B : Type 0} (R S : A → B → Type 0) → ((a : A) (b : B) → R a b → S a b) → (xs : List A) (ys : List B) → Pairwise R xs ys → Pairwise S xs ys
+pub pairwise_weaker : {A B : Type 0} (R S : A → B → Type 0) → ((a : A) (b : B) → R a b → S a b) → (xs : List A) (ys : List B) → Pairwise R xs ys → Pairwise S xs ys
 pairwise_weaker R S f [] [] h = tt
 pairwise_weaker R S f [] (y ∷ ys) h = absurd h
 pairwise_weaker R S f (x ∷ xs) [] h = absurd h
@@ -70,7 +70,7 @@ pairwise_unmapped R f g (x ∷ xs) (y ∷ ys) h = (h.0, pairwise_unmapped R f g 
 same_sound : (scaling : Scaling) (o : Options) (part : ℕ → Bool) (source out : List MidiEvent) → HasSameSound scaling o part source out → told.HasSameSound scaling o (plain_device o) part source out
 same_sound scaling o part source out h t =
     pairwise_weaker (λ a b. sounds a ≡ true → SoundsTheSame scaling o (at_tick t source) (at_tick t out) a b) (λ a b. sounds a ≡ true → told.SoundsTheSame scaling o (plain_device o) (until t source) (until t out) a b)
-    (λ a b f s. let x = f s in record { controls = x.controls; pressure = x.pressure; key_pressure = x.key_pressure; parameters = x.parameters; pitch = x.pitch })
+    (λ a b f s. let x = f s in record { settings = record { controls = x.controls; pressure = x.pressure; key_pressure = x.key_pressure; parameters = x.parameters }; pitch = x.pitch })
     (retuned_notes part (at_tick t source)) (retuned_notes part (at_tick t out)) (h t)
 
 heard : told.Beginning → Beginning

@@ -5,6 +5,7 @@ pub mod Source
 pub mod Ports
 pub mod PlaysTheSame
 pub mod Octave
+pub mod Drums
 pub mod Faults
 pub mod Pairs
 pub mod Rests
@@ -23,5 +24,6 @@ pub mod Plain
 pub mod PortOutput
 pub mod Dump
 pub mod Dumpable
+pub mod Places
 pub mod OutputLaws
 pub mod Examples

@@ -86,15 +86,21 @@ plain_device o = record { pitch = λ es n. played (after es) n; bound = bound o 
 abbrev pub state_of : Music → Note → Channel
 state_of m n = channel_at m (governor m.zones n.channel)
 
--- Once the source's events have come and once the output's have, two notes have the same controllers, pressures and parameters, and the
--- device plays the one within its bound of the source pitch of the other.
-pub record SoundsTheSame (scaling : Scaling) (o : Options) (device : Device) (source out : List MidiEvent) (a b : Note) : Type 0 where
+-- Once the source's events have come and once the output's have: two notes have the same controllers, pressures and parameters.
+pub record HasSameSettings (source out : List MidiEvent) (a b : Note) : Type 0 where
   pub controls : (state_of (after out).music b).controls ≡ (state_of (after source).music a).controls
   pub pressure : (state_of (after out).music b).pressure ≡ (state_of (after source).music a).pressure
   pub key_pressure : b.pressure ≡ a.pressure
   -- all parameters but the bend sensitivity
   pub parameters : (p : Parameter) → p ≢ rpn 0 → value_of (state_of (after out).music b).params p ≡ value_of (state_of (after source).music a).params p
-  pub pitch : IsWithin (source_pitch scaling o (after source).music a) (device.pitch out b) device.bound
+
+-- and the device plays the one within its bound of the source pitch of the other
+abbrev pub IsInTune : Scaling → Options → Device → List MidiEvent → List MidiEvent → Note → Note → Type 0
+IsInTune scaling o device source out a b = IsWithin (source_pitch scaling o (after source).music a) (device.pitch out b) device.bound
+
+pub record SoundsTheSame (scaling : Scaling) (o : Options) (device : Device) (source out : List MidiEvent) (a b : Note) : Type 0 where
+  pub settings : HasSameSettings source out a b
+  pub pitch : IsInTune scaling o device source out a b
 
 -- At every tick, each retuned note of the source that sounds then has its controllers, pressures and parameters in the output too,
 -- and is played within the bound of its source pitch.
@@ -136,7 +142,7 @@ beginnings part es = beginnings_from part [] es
 
 pub record BeginsAlike (scaling : Scaling) (o : Options) (device : Device) (a b : Beginning) : Type 0 where
   pub track : b.track ≡ a.track
-  pub pitch : IsWithin (source_pitch scaling o (after a.events).music a.note) (device.pitch b.events b.note) device.bound
+  pub pitch : IsInTune scaling o device a.events b.events a.note b.note
 
 -- Right after the event that begins the i-th retuned note, in the source and in the output, it is played within the bound of its
 -- source pitch, and the two events stand in tracks of the same number.

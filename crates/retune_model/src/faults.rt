@@ -1,8 +1,10 @@
 //! Laws of faults. The functions do nothing: their contracts are what is stated.
 
 ghost use Rattle.retune_model.specs.FaultLaws.{OnlyZoneEntriesAskForZones, NoFirstNoFault, NoFaultNoFirst, FirstIsOfAnEvent, FirstIsFound, FaultsArePlaced, LeastIsKept, NoneIsBeyond, SoundPortsAreAimed, FaultlessPorts, PortsAreFaultless, FaultlessBreakNoPorts, OnePortBreaksNone, OnePortIsFaultless};
+ghost use Rattle.retune_model.specs.Drums.{DrumsStandApart, DrumsTuneNoOther};
 
 use crate::ports::position_laws;
+use midi_model::music_laws;
 
 /// No message asks for a zone but data entry of a zone's size on a part.
 pub fn zone_entries_set_zones()
@@ -38,4 +40,13 @@ pub fn sound_sources()
     ensures in_turn { OnePortIsFaultless }
 {
     position_laws();
+}
+
+/// Leaving out the messages of drums changes nothing on the other channels: not their states, zones, notes or tunings. So what a
+/// source's kept drums say need not be looked at.
+pub fn drums_stand_apart()
+    ensures music { DrumsStandApart }
+    ensures tuning { DrumsTuneNoOther }
+{
+    music_laws();
 }

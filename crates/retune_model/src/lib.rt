@@ -2,6 +2,7 @@
 #![tactic(auto)]
 
 mod channels;
+mod comparing;
 mod dump;
 mod examples;
 mod faults;
@@ -10,12 +11,16 @@ mod rests;
 mod routes;
 
 pub use channels::{fewest_channels, need_laws, run_laws};
+pub use comparing::place_laws;
 pub use dump::dump_is_playable;
 pub use examples::{
     bend_examples, beyond_examples, dumpable_example, fault_examples, need_examples,
-    output_examples, pair_examples, port_examples, rest_examples, scale_examples, target_examples,
+    octave_examples, output_examples, pair_examples, port_examples, rest_examples, scale_examples,
+    target_examples,
 };
-pub use faults::{beyond_laws, fault_laws, sound_sources, zone_entries_set_zones};
+pub use faults::{
+    beyond_laws, drums_stand_apart, fault_laws, sound_sources, zone_entries_set_zones,
+};
 pub use ports::{port_laws, position_laws};
 pub use rests::{
     elsewhere, held_laws, last_ends, part_alone, rests_are_runs, rests_as_written, without_rests,
