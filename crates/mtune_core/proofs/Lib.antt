@@ -12,5 +12,7 @@ pub mod Writable
 pub mod PlaysSame
 pub mod Retuned
 pub mod Ended
+pub mod Stages
+pub mod Steps
 pub mod Accepting
 pub mod Reach

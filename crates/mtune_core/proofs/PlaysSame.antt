@@ -11,13 +11,14 @@ use Rattle.midi_model.specs.TuningBytes.{IsTuningValue, value_bytes, dump_body, 
 use Rattle.mts_msg.specs.Readings.{DumpsAreReadAgain}
 use Rattle.retune_model.specs.Table.{Bounds, up_to, nearest_tuning, tuning_target}
 use Rattle.retune_model.specs.Faults.{Targets}
+use Rattle.retune_model.specs.FaultLaws.{OnlyZoneEntriesAskForZones}
 use Rattle.retune_model.specs.PlaysTheSame.{HasSameShape}
 use Rattle.retune_model.specs.Dump.{dumped, tuning_if, tuning_at, values_from, IsDumpOf}
 use Rattle.retune_model.specs.Dumpable.{IsDumpable}
 use Rattle.mtune_core.specs.Source.{note_on}
 use Rattle.mtune_core.specs.Chosen.{dump_options, is_on_key, uses_key}
 use Rattle.mtune_core.specs.Answers.{dumped_file}
-use Rattle.mtune_core.specs.OutputLaws.{OutputPlaysTheSame}
+use Rattle.mtune_core.specs.OutputLaws.{TakenIsFaultless, OutputPlaysTheSame}
 use Rattle.mtune_core.proofs.Dealt.{length_dealt}
 use Rattle.mtune_core.proofs.Premises.{SameLaws}
 use Rattle.mtune_core.proofs.SurveyFacts.{IsLow, low_note}
@@ -103,6 +104,11 @@ has_target table k t one some = pick (table k 0) refl some
     pick None e h = absurd cc
     pick (Some b) e h = (b, one ∙ e, h)
 
+pub source_is_faultless : OnlyZoneEntriesAskForZones → TakenIsFaultless
+source_is_faultless zones table source one playable taken played =
+    taken_is_faultless zones table (merged source) taken
+    (λ k t h. has_target table k t (one k t) (played k (used_below k (merged source) playable.valid h) h))
+
 -- ---- the whole file
 pub plays_the_same : SameLaws → OutputPlaysTheSame
 plays_the_same laws scaling table source bounds few one playable taken played =
@@ -118,7 +124,7 @@ plays_the_same laws scaling table source bounds few one playable taken played =
       route = refl;
       valid = playable.valid;
       in_order = laws.in_order n es playable;
-      faultless = taken_is_faultless laws.zones laws.in_turn table es taken (λ k t h. has_target table k t (one k t) (played k (used_below k es playable.valid h) h));
+      faultless = source_is_faultless laws.zones table source one playable taken played;
       bounds = bounds;
       few_terms = few;
       one_table = one;

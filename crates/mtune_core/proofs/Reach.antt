@@ -12,7 +12,7 @@ use Rattle.retune_model.specs.Table.{Bounds, AreBounds, Bound, AreFewTerms, IsTa
 use Rattle.retune_model.specs.Faults.{Targets}
 use Rattle.retune_model.specs.Dump.{tuning_if, tuning_at}
 use Rattle.mtune_core.specs.Accepted.{IsInReach, AreInReach, ArePlayable}
-use Rattle.mtune_core.specs.Causes.{scaling_of}
+use Rattle.mtune_core.specs.Table.{scaling_of}
 
 -- half a step more than 12,700 cents lies before the end of the greatest step
 step_fits : (z : ℤ) → pos 0 ≤ℤ z → z ≤ℤ pos 406400097656250 → is_some (up_to 2097150 (int_div_euclid z (pos 195312500))) ≡ true

@@ -7,7 +7,6 @@ use Rattle.midi_model.specs.FileText.{MidiFile}
 use Rattle.midi_model.specs.Merged.{merged, IsPlayable}
 use Rattle.midi_model.specs.Spelling.{Spells}
 use Rattle.midi_model.specs.Writing.{file_bytes}
-use Rattle.retune_model.specs.Table.{Scaling, IsTable, AreFewTerms}
 use Rattle.retune_model.specs.Dump.{tuning_if, tuning_at, values_from}
 use Rattle.key_pitch.specs.Aims.{table_of}
 use Rattle.key_pitch.specs.declared.table.KeyTable.{KeyTable}
@@ -16,10 +15,13 @@ use Rattle.mtune_core.specs.declared.outcome.Fault.{Fault}
 use Rattle.mtune_core.specs.declared.outcome.Fault.TheVariants.{Usage, NotYet, Load, TooLong, Scl, ReferenceUnmapped, TooManyPeriods, Smf, Store, Say, Memory}
 use Rattle.mtune_core.specs.declared.survey.Survey.{Survey}
 use Rattle.mtune_core.specs.Answers.{dumped_file, report_of, ArePlayed, IsRefusal}
-use Rattle.mtune_core.specs.Causes.{table_fn, AreTaken, IsRetuned, InputCause}
+use Rattle.mtune_core.specs.Limits.{input_limit}
+use Rattle.mtune_core.specs.Made.{MadeOf}
+use Rattle.mtune_core.specs.Retuned.{AreTaken, HaveTargets, InputCause}
+use Rattle.mtune_core.specs.Table.{table_fn}
 use Rattle.mtune_core.specs.Chosen.{uses_key}
 use Rattle.mtune_core.specs.Survey.{survey_of}
-use Rattle.mtune_core.specs.OutputLaws.{OutputIsSpelt, OutputPlaysTheSame}
+use Rattle.mtune_core.specs.OutputLaws.{OutputIsSpelt, TakenIsFaultless, OutputPlaysTheSame}
 use Rattle.mtune_core.proofs.PlaysSame.{values_are, values_count, dump_length}
 use Rattle.mtune_core.proofs.SurveyFacts.{found_keys, found_taken, found_untaken}
 use Rattle.mtune_core.proofs.Writable.{division_below}
@@ -55,7 +57,7 @@ input_refused table input source targets Memory spelled valid each h = absurd h
 
 -- a key that is used has a target
 each_played : (table : KeyTable) (source : MidiFile) (targets : List (Option ℕ)) (found : Survey) → AllByRecursion (λ e. IsValidEvent e) (merged source) → AreTargetsOf table targets
-    → found ≡ survey_of (merged source) → ArePlayed targets found.keys → (k : ℕ) → k < 128 → uses_key k (merged source) ≡ true → is_some (tuning_at (table_fn table) k) ≡ true
+    → found ≡ survey_of (merged source) → ArePlayed targets found.keys → HaveTargets (table_fn table) source
 each_played table source targets found valid each is played k low used =
     sym (ap (λ (t : Option ℕ). is_some t) (each k low))
     ∙ played k low (ap (λ (f : Survey). get_or f.keys k false) is ∙ found_keys (merged source) k valid ∙ used)
@@ -67,27 +69,30 @@ pub below : (xs : List ℕ) → ((i : ℕ) → Fits w8 (get_or xs i 0)) → AllB
 below [] h = tt
 below (x ∷ xs) h = (omega (arith, h 0), below xs (λ i. h (suc i)))
 
-pub made_is_retuned : OutputIsSpelt → OutputPlaysTheSame → (r : Result Made Fault) (scaling : Scaling) (table : KeyTable) (input : List ℕ) (source : MidiFile) (targets : List (Option ℕ)) (found : Survey)
-    → IsTable scaling (table_fn table) → AreFewTerms scaling → Spells input source → length input ≤ 4194304 → AllByRecursion (λ (b : ℕ). b < 256) input
+pub made_is_retuned : OutputIsSpelt → TakenIsFaultless → OutputPlaysTheSame → (r : Result Made Fault) (table : KeyTable) (input : List ℕ) (source : MidiFile) (targets : List (Option ℕ)) (found : Survey)
+    → Spells input source → length input ≤ input_limit → AllByRecursion (λ (b : ℕ). b < 256) input
     → IsPlayable (length source.tracks) (merged source) → length targets ≡ 128 → AreTargetsOf table targets
     → found ≡ survey_of (merged source) → found.taken ≡ true → ArePlayed targets found.keys
     → IfOk r (λ made. made.output.items ≡ file_bytes (dumped_file targets source)) → IfOk r (λ made. made.report.items ≡ report_of (merged source))
-    → IfOk r (λ made. IsRetuned scaling (table_fn table) input made.output.items made.report.items)
-made_is_retuned spelt same_played (Ok made) scaling table input source targets found bounds few spelled short bytes playable full each is taken played output report =
+    → IfOk r (λ made. MadeOf (table_fn table) input made.output.items made.report.items)
+made_is_retuned spelt faultless same_played (Ok made) table input source targets found spelled short bytes playable full each is taken played output report = λ scaling is_table few.
     let values = values_from (tuning_at (table_fn table)) 0 128 in
     let same : targets ≡ values = exactly table targets full each in
     let text : made.output.items ≡ file_bytes (dumped_file values source) = output ∙ ap (λ (t : List (Option ℕ)). file_bytes (dumped_file t source)) same in
     let all_taken : AreTaken source = found_taken (merged source) (sym (ap (λ (f : Survey). f.taken) is) ∙ taken) in
+    let have : HaveTargets (table_fn table) source = each_played table source targets found playable.valid each is played in
     record {
       source = source;
       out = dumped_file values source;
       spelled = spelled;
       taken = all_taken;
+      targets = have;
+      faultless = faultless (table_fn table) source (λ key onset. refl) playable all_taken have;
       is_out = subst (λ (b : List ℕ). Spells b (dumped_file values source)) (sym text)
-          (spelt input source values spelled short (division_below input source spelled bytes) playable all_taken (dump_length values (values_count (tuning_at (table_fn table)) 0 128)));
-      same = same_played scaling (table_fn table) source bounds few (λ key onset. refl) playable all_taken (each_played table source targets found playable.valid each is played);
+          (spelt input source values spelled short (division_below input source spelled bytes) playable (dump_length values (values_count (tuning_at (table_fn table)) 0 128)));
+      same = same_played scaling (table_fn table) source is_table.is_table few (λ key onset. refl) playable all_taken have;
       exact_file = refl;
       exact_bytes = text;
       is_report = report;
     }
-made_is_retuned spelt same_played (Err fault) scaling table input source targets found bounds few spelled short bytes playable full each is taken played output report = tt
+made_is_retuned spelt faultless same_played (Err fault) table input source targets found spelled short bytes playable full each is taken played output report = tt

@@ -1,38 +1,66 @@
--- How a call ends: what is held, said and counted before it and after.
-use Rattle.std.specs.Prelude.{ℕ, ◌≡◌, ◌⊎◌, List, Bool, Option, Some}
-use Rattle.mtune_files.specs.Names.{Held, IsSameBut, stored, appended, AppendsFront}
-use Rattle.mtune_files.specs.Faults.{Faults, Rose, RisesSays}
+-- How a call ends: the outside before it and after.
+use Rattle.std.specs.Prelude.{ℕ, ◌≡◌, ◌⊎◌, List, Option, Some, None}
+use Rattle.scl_text.specs.declared.entry.Entry.{Entry}
+use Rattle.retune_model.specs.Table.{AreFewTerms}
+use Rattle.retune_model.specs.Faults.{Targets}
+use Rattle.mtune_files.specs.declared.which.Which.TheVariants.{Scale, Input}
+use Rattle.mtune_files.specs.Outside.{Outside, after_load, after_store, AfterFailedStore, after_say, AfterFailedSay}
 use Rattle.mtune_core.specs.declared.outcome.Fault.{Fault}
-use Rattle.mtune_core.specs.declared.outcome.Fault.TheVariants.{Store, Say}
-use Rattle.mtune_core.specs.Causes.{EarlyCause, IsPrepared}
+use Rattle.mtune_core.specs.declared.outcome.Fault.TheVariants.{Usage, Store, Say}
 use Rattle.mtune_core.specs.Command.{Command, command_of}
+use Rattle.mtune_core.specs.Contents.{Content, ContentCause}
+use Rattle.mtune_core.specs.Limits.{text_limit, input_limit}
 use Rattle.mtune_core.specs.Lines.{fault_line}
+use Rattle.mtune_core.specs.Retuned.{InputCause, IsRetuned}
+use Rattle.mtune_core.specs.Table.{IsScale, IsOneTable, scaling_of, TextCause, TableFrom}
 
--- The words are those of a command, for which this was made.
-pub record IsMade (held : Option Held) (words : List (List ℕ)) : Type 0 where
+-- ---- before the store
+
+-- The words are those of a command. It is told of a scale, few enough terms of each key, a table and an input within their
+-- limits, and this was made of them.
+pub record IsPrepared (o : Outside) (c : Command) (output report : List ℕ) : Type 0 where
+  pub text : Content o c.scale text_limit
+  pub entries : List Entry
+  pub is_scale : IsScale text.bytes entries
+  pub table : Targets
+  pub is_table : IsOneTable (scaling_of entries) table
+  pub input : Content o c.input input_limit
+  pub retuned : IsRetuned (scaling_of entries) table input.bytes output report
+
+pub record IsMade (o : Outside) (words : List (List ℕ)) : Type 0 where
   pub command : Command
   pub output : List ℕ
   pub report : List ℕ
   pub is_command : command_of words ≡ Some command
-  pub is_prepared : IsPrepared held command output report
+  pub is_prepared : IsPrepared o command output report
 
--- The output is held at its name, and the report was said.
-abbrev pub IsDone : Option Held → Option Held → Option (List ℕ) → Option (List ℕ) → List (List ℕ) → Type 0
-IsDone held held_after said said_after words = (m : IsMade held words) × (held_after ≡ stored held m.command.out m.output) × (said_after ≡ appended said m.report)
+-- The work stopped at the scale; or at the input, once the scale had given a table.
+abbrev pub CommandCause : Command → Outside → Outside → Fault → Type 0
+CommandCause c before now fault = ContentCause Scale c.scale text_limit TextCause before now fault
+    ⊎ ((table : Targets) × TableFrom before c.scale table × ContentCause Input c.input input_limit (InputCause table) (after_load Scale before) now fault)
 
--- Before the store nothing changes; a failed store changes nothing at other names; after a failed say the output is held, and
--- no other call was counted as failed.
-abbrev pub IsRefused : Bool → Option Held → Option Held → Option (List ℕ) → Option (List ℕ) → Faults → Faults → List (List ℕ) → Fault → Type 0
-IsRefused steady held held_after said said_after before now words Store = (m : IsMade held words) × IsSameBut m.command.out held held_after × Rose before.stores now.stores
-IsRefused steady held held_after said said_after before now words Say = (m : IsMade held words) × (held_after ≡ stored held m.command.out m.output) × AppendsFront m.report said said_after × RisesSays before now
-IsRefused steady held held_after said said_after before now words fault = EarlyCause steady held before now words fault × (held_after ≡ held)
+-- ---- the call
 
--- The line of the fault was said, or a front of it and its failure was counted; after a failed say nothing more is.
-abbrev pub IsTold : Option (List ℕ) → Option (List ℕ) → Faults → Faults → Fault → Type 0
-IsTold said said_after before now Say = Unit {0}
-IsTold said said_after before now fault = (said_after ≡ appended said (fault_line fault)) ⊎ (AppendsFront (fault_line fault) said said_after × Rose before.says now.says)
+-- each content was loaded once, and nothing else was done
+abbrev pub after_loads : Outside → Outside
+after_loads o = after_load Input (after_load Scale o)
 
--- nothing was said yet, and no failed say was counted
-abbrev pub IsQuiet : Option (List ℕ) → Option (List ℕ) → Faults → Faults → Fault → Type 0
-IsQuiet said said_after before now Say = Unit {0}
-IsQuiet said said_after before now fault = (said_after ≡ said) × (now.says ≡ before.says)
+-- After the loads the output was stored and the report was said, each once.
+abbrev pub IsDone : Outside → Outside → List (List ℕ) → Type 0
+IsDone before now words = (m : IsMade before words) × (now ≡ after_say m.report (after_store m.command.out m.output (after_loads before)))
+
+-- The fault ended the work, and nothing was done after it.
+abbrev pub IsStopped : Outside → Outside → List (List ℕ) → Fault → Type 0
+IsStopped before now words (Usage kind) = (kind ≡ 1) × (command_of words ≡ None) × (now ≡ before)
+IsStopped before now words Store = (m : IsMade before words) × AfterFailedStore m.command.out (after_loads before) now
+IsStopped before now words Say = (m : IsMade before words) × AfterFailedSay m.report (after_store m.command.out m.output (after_loads before)) now
+IsStopped before now words fault = (c : Command) × (command_of words ≡ Some c) × CommandCause c before now fault
+
+-- The line of the fault was said, or that failed; after a failed say nothing more is said.
+abbrev pub IsTold : Outside → Outside → Fault → Type 0
+IsTold before now Say = now ≡ before
+IsTold before now fault = (now ≡ after_say (fault_line fault) before) ⊎ AfterFailedSay (fault_line fault) before now
+
+-- The fault ended the work, and then it was told.
+abbrev pub IsRefused : Outside → Outside → List (List ℕ) → Fault → Type 0
+IsRefused before now words fault = (stopped : Outside) × IsStopped before stopped words fault × IsTold stopped now fault

@@ -1,12 +1,16 @@
+pub mod Limits
 pub mod Status
 pub mod Command
 pub mod Lines
+pub mod Contents
+pub mod Table
 pub mod Source
 pub mod Survey
 pub mod Chosen
 pub mod Putting
 pub mod Answers
+pub mod Retuned
 pub mod OutputLaws
-pub mod Causes
+pub mod Made
 pub mod Call
 pub mod Accepted

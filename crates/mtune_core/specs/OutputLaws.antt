@@ -4,19 +4,21 @@ use Rattle.std.specs.List.{AllByRecursion}
 use Rattle.mt_base.specs.Midi.{MidiEvent}
 use Rattle.midi_model.specs.FileText.{MidiFile}
 use Rattle.midi_model.specs.Merged.{merged, IsPlayable}
+use Rattle.midi_model.specs.Music.{quiet}
 use Rattle.midi_model.specs.Spelling.{Spells}
 use Rattle.midi_model.specs.TuningBytes.{dump_bytes}
 use Rattle.midi_model.specs.Writing.{Written, written, file_bytes}
 use Rattle.event_stream.specs.Distributed.{distributed}
 use Rattle.retune_model.specs.Table.{Scaling, IsTable, AreFewTerms}
-use Rattle.retune_model.specs.Faults.{Targets}
+use Rattle.retune_model.specs.Faults.{Targets, IsFaultless}
 use Rattle.retune_model.specs.Dump.{tuning_at, values_from}
 use Rattle.retune_model.specs.PlaysTheSame.{PlaysTheSame}
 use Rattle.retune_model.specs.Routes.{Setup}
 use Rattle.mtune_core.specs.Answers.{dumped_file}
-use Rattle.mtune_core.specs.Chosen.{dump_options, uses_key}
+use Rattle.mtune_core.specs.Chosen.{dump_options}
+use Rattle.mtune_core.specs.Limits.{input_limit}
 use Rattle.mtune_core.specs.Putting.{AllMayPut, put_all, written_from}
-use Rattle.mtune_core.specs.Source.{is_taken}
+use Rattle.mtune_core.specs.Retuned.{AreTaken, HaveTargets}
 
 -- the events of a playable list may be put into new tracks one after the other
 abbrev pub PlayableMayBePut : Type 0
@@ -34,17 +36,23 @@ pub record IsShortSetup (s : Setup) : Type 0 where
 
 -- each track that is put for a source of at most 4,194,304 bytes, with such a setup, fits in its chunk
 abbrev pub TracksAreShort : Type 0
-TracksAreShort = (bytes : List ℕ) (source : MidiFile) (s : Setup) → Spells bytes source → length bytes ≤ 4194304 → IsShortSetup s
+TracksAreShort = (bytes : List ℕ) (source : MidiFile) (s : Setup) → Spells bytes source → length bytes ≤ input_limit → IsShortSetup s
     → All (λ (w : Written). length w.bytes < 2 ^ 32) (map written (distributed (length source.tracks) (written_from s false (merged source))))
 
--- the bytes of the output of a source of at most 4,194,304 bytes whose events are taken, where the targets of all keys make a dump of 407 bytes, spell the output
+-- the bytes of the output of a source of at most 4,194,304 bytes, where the targets of all keys make a dump of 407 bytes, spell the output
 abbrev pub OutputIsSpelt : Type 0
-OutputIsSpelt = (bytes : List ℕ) (source : MidiFile) (targets : List (Option ℕ)) → Spells bytes source → length bytes ≤ 4194304 → source.division < 2 ^ 16
-    → IsPlayable (length source.tracks) (merged source) → AllByRecursion (λ e. is_taken e.what ≡ true) (merged source) → length (dump_bytes 0 targets) ≡ 407 → Spells (file_bytes (dumped_file targets source)) (dumped_file targets source)
+OutputIsSpelt = (bytes : List ℕ) (source : MidiFile) (targets : List (Option ℕ)) → Spells bytes source → length bytes ≤ input_limit → source.division < 2 ^ 16
+    → IsPlayable (length source.tracks) (merged source) → length (dump_bytes 0 targets) ≡ 407 → Spells (file_bytes (dumped_file targets source)) (dumped_file targets source)
 
--- for a source whose events are taken, and whose keys have targets in a table of the scale, the output plays the same
+-- In a table that gives a key the same bounds at each tick, a source whose events are taken, and whose keys have targets, has no
+-- fault; and its output plays the same.
+abbrev pub TakenIsFaultless : Type 0
+TakenIsFaultless = (table : Targets) (source : MidiFile) → ((key onset : ℕ) → table key onset ≡ table key 0)
+    → IsPlayable (length source.tracks) (merged source) → AreTaken source → HaveTargets table source
+    → IsFaultless dump_options table quiet (merged source)
+
 abbrev pub OutputPlaysTheSame : Type 0
-OutputPlaysTheSame = (scaling : Scaling) (table : Targets) (source : MidiFile) → IsTable scaling table → AreFewTerms scaling → ((key onset : ℕ) → table key onset ≡ table key 0)
-    → IsPlayable (length source.tracks) (merged source) → AllByRecursion (λ e. is_taken e.what ≡ true) (merged source)
-    → ((k : ℕ) → k < 128 → uses_key k (merged source) ≡ true → is_some (tuning_at table k) ≡ true)
+OutputPlaysTheSame = (scaling : Scaling) (table : Targets) (source : MidiFile) → IsTable scaling table → AreFewTerms scaling
+    → ((key onset : ℕ) → table key onset ≡ table key 0)
+    → IsPlayable (length source.tracks) (merged source) → AreTaken source → HaveTargets table source
     → PlaysTheSame scaling dump_options table source (dumped_file (values_from (tuning_at table) 0 128) source)

@@ -1,12 +1,11 @@
-ghost use Rattle.std.specs.Prelude.{◌≡◌, ℕ, List, Bool, Option};
-ghost use Rattle.mtune_files.specs.Names.{Held};
-ghost use Rattle.mtune_files.specs.Faults.{Faults};
+ghost use Rattle.std.specs.Prelude.{◌≡◌, ℕ, List};
+ghost use Rattle.mtune_files.specs.Outside.{Outside};
 ghost use Rattle.midi_model.specs.FileText.{MidiFile};
 ghost use Rattle.retune_model.specs.Table.{AreFewTerms};
 ghost use Rattle.scl_text.specs.declared.entry.Entry.{Entry};
 ghost use Rattle.mtune_core.specs.Accepted.{IsAccepted, NoneRose, AreInReach, ArePlayable};
 ghost use Rattle.mtune_core.specs.Call.{IsRefused};
-ghost use Rattle.mtune_core.specs.Causes.{scaling_of};
+ghost use Rattle.mtune_core.specs.Table.{scaling_of};
 ghost use Rattle.mtune_core.specs.declared.outcome.Fault.{Fault};
 
 use midi_model::file_laws;
@@ -17,7 +16,9 @@ use scl_text::one_answer;
 /// its cause: a name holds one content, a text is one scale and has no fault, and bytes spell one
 /// file and have no fault.
 pub fn accepted_has_no_fault()
-    ensures { (steady : Bool) (held held_after : Option Held) (said said_after : Option (List ℕ)) (before now : Faults) (words : List (List ℕ)) (fault : Fault) → IsAccepted held words → NoneRose before now → IsRefused steady held held_after said said_after before now words fault → fault ≡ Fault.Memory }
+    ensures { (before now : Outside) (words : List (List ℕ)) (fault : Fault)
+        → IsAccepted before words → NoneRose before.faults now.faults
+        → IsRefused before now words fault → fault ≡ Fault.Memory }
 {
     one_answer();
     file_laws();
@@ -26,7 +27,8 @@ pub fn accepted_has_no_fault()
 /// Keys whose scale pitches are from 0 to 12,700 cents have targets, whichever table of the scale is
 /// taken.
 pub fn keys_in_reach_are_playable()
-    ensures { (entries : List Entry) (source : MidiFile) → AreFewTerms (scaling_of entries) → AreInReach entries source → ArePlayable entries source }
+    ensures { (entries : List Entry) (source : MidiFile) → AreFewTerms (scaling_of entries)
+        → AreInReach entries source → ArePlayable entries source }
 {
     ends();
 }

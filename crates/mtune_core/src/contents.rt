@@ -2,8 +2,13 @@ ghost use Rattle.std.specs.Prelude.{◌≡◌, ◌≤◌, length, IfOk, IfErr, O
 ghost use Rattle.scala_lines.specs.Lines.{lines_of};
 ghost use Rattle.scl_text.specs.Spelling.{ScaleText};
 ghost use Rattle.midi_model.specs.Spelling.{Spells};
-ghost use Rattle.mtune_files.specs.Names.{IsHeld};
-ghost use Rattle.mtune_core.specs.Causes.{LoadCause, TextCause, SpellCause};
+ghost use Rattle.smf_read.specs.Files.{view_file};
+ghost use Rattle.mtune_files.specs.Outside.{IsHeld, after_load};
+ghost use Rattle.mtune_core.specs.Contents.{LoadCause};
+ghost use Rattle.mtune_core.specs.Limits.{text_limit, input_limit};
+ghost use Rattle.retune_model.specs.Faults.{Targets};
+ghost use Rattle.mtune_core.specs.Retuned.{InputCause};
+ghost use Rattle.mtune_core.specs.Table.{TextCause};
 
 use crate::outcome::Fault;
 use mtune_files::{Files, LoadFault, Which};
@@ -18,7 +23,6 @@ pub const TEXT_LIMIT: u32 = 262_144;
 pub const INPUT_LIMIT: u32 = 4_194_304;
 
 /// The content at a name, of at most `limit` bytes.
-#[tactic(auto, using(crate::proofs::Ended::says_stay))]
 pub fn load<F: Files>(
     alloc: Global,
     files: &mut F,
@@ -26,14 +30,11 @@ pub fn load<F: Files>(
     name: &str,
     limit: u32,
 ) -> Result<Vec<u8>, Fault>
-    ensures content { IfOk result (λ v. IsHeld (F.held files.old) name.now v.items) }
+    ensures content { IfOk result (λ v. IsHeld (F.outside files.old) name.now v.items) }
     ensures short { IfOk result (λ v. length v.items ≤ limit) }
-    ensures cause { IfErr result (λ e. LoadCause (F.steady files.old) (F.held files.old) (F.faults files.old) (F.faults files.new) which name.now limit e) }
-    ensures counts { OnOk result (F.faults files.new ≡ F.faults files.old) }
-    ensures says { (F.faults files.new).says ≡ (F.faults files.old).says }
-    ensures held { F.held files.new ≡ F.held files.old }
-    ensures said { F.said files.new ≡ F.said files.old }
-    ensures steady { F.steady files.new ≡ F.steady files.old }
+    ensures loaded { OnOk result (F.outside files.new ≡ after_load which (F.outside files.old)) }
+    ensures cause { IfErr result
+        (λ e. LoadCause which name.now limit (F.outside files.old) (F.outside files.new) e) }
 {
     match files.load(alloc, which, name, limit) {
         Ok(content) => Ok(content),
@@ -45,8 +46,8 @@ pub fn load<F: Files>(
 
 /// The scale of a text.
 pub fn read_scale(alloc: Global, text: &[u8]) -> Result<Scale, Fault>
-    requires { length text.now ≤ 262144 }
-    ensures found { IfOk result (ScaleText (lines_of text.now)) }
+    requires { length text.now ≤ text_limit }
+    ensures found { IfOk result (λ scale. ScaleText (lines_of text.now) scale.entries.items) }
     ensures cause { IfErr result (λ e. TextCause text.now e) }
 {
     match read_scl(alloc, text) {
@@ -58,9 +59,9 @@ pub fn read_scale(alloc: Global, text: &[u8]) -> Result<Scale, Fault>
 
 /// The file of an input.
 pub fn read_input(alloc: Global, bytes: &[u8]) -> Result<Smf<'_>, Fault>
-    requires { length bytes.now ≤ 4194304 }
-    ensures found { IfOk result (λ smf. Spells bytes.entry.now smf) }
-    ensures cause { IfErr result (λ e. SpellCause bytes.entry.now e) }
+    requires { length bytes.now ≤ input_limit }
+    ensures found { IfOk result (λ smf. Spells bytes.entry.now (view_file smf)) }
+    ensures cause { IfErr result (λ e. (table : Targets) → InputCause table bytes.entry.now e) }
 {
     match read_smf(alloc, bytes) {
         Ok(smf) => Ok(smf),

@@ -1,12 +1,15 @@
 ghost use Rattle.std.specs.Prelude.{◌≡◌, ◌<◌, ◌≤◌, ◌^◌, false, true, map, length, All, IfOk, IfErr, IfSome, IfNone, count_by};
 ghost use Rattle.midi_model.specs.Merged.{merged, IsPlayable};
 ghost use Rattle.midi_model.specs.Writing.{Written, written, file_bytes};
+ghost use Rattle.smf_read.specs.Files.{view_file};
 ghost use Rattle.std.specs.List.{AllByRecursion};
 ghost use Rattle.midi_model.specs.TuningBytes.{IsTuningValue};
 ghost use Rattle.mtune_core.specs.Answers.{output_file, dumped_file, report_of, IsUnplayed, ArePlayed, AreShort, IsRefusal};
 ghost use Rattle.mtune_core.specs.Survey.{survey_of};
-ghost use Rattle.retune_model.specs.Table.{Scaling, IsTable, AreFewTerms};
-ghost use Rattle.mtune_core.specs.Causes.{table_fn, IsRetuned, InputCause};
+ghost use Rattle.mtune_core.specs.Limits.{input_limit};
+ghost use Rattle.mtune_core.specs.Made.{MadeOf};
+ghost use Rattle.mtune_core.specs.Retuned.{InputCause};
+ghost use Rattle.mtune_core.specs.Table.{table_fn};
 ghost use Rattle.mtune_core.specs.Putting.{written_from, view_setup};
 
 use crate::contents::read_input;
@@ -57,11 +60,11 @@ fn count(parts: &[bool; 16]) -> u32
 
 /// The survey of a source, where it is taken and the device can play it.
 fn accept(smf: &Smf<'_>, targets: &Targets) -> Result<Survey, Fault>
-    ensures found { IfOk result (λ f. f ≡ survey_of (merged smf.now)) }
+    ensures found { IfOk result (λ f. f ≡ survey_of (merged (view_file smf.now))) }
     ensures taken { IfOk result (λ f. f.taken ≡ true) }
     ensures played { IfOk result (λ f. ArePlayed targets.now f.keys) }
-    ensures playable { IsPlayable (length smf.now.tracks) (merged smf.now) }
-    ensures refused { IfErr result (λ e. IsRefusal targets.now (survey_of (merged smf.now)) e) }
+    ensures playable { IsPlayable (length (view_file smf.now).tracks) (merged (view_file smf.now)) }
+    ensures refused { IfErr result (λ e. IsRefusal targets.now (survey_of (merged (view_file smf.now))) e) }
 {
     let found = look_through(&mut Merge::new(smf));
     if !found.taken {
@@ -76,11 +79,11 @@ fn accept(smf: &Smf<'_>, targets: &Targets) -> Result<Survey, Fault>
 /// The bytes of the output of a source with a setup.
 fn output(alloc: Global, smf: &Smf<'_>, setup: &Setup) -> Result<Vec<u8>, Memory>
     requires program { setup.now.program ≤ 127 }
-    requires format { smf.now.format ≤ 1 }
-    requires one { smf.now.format ≡ 0 → length smf.now.tracks ≡ 1 }
-    requires playable { IsPlayable (length smf.now.tracks) (written_from (view_setup setup.now) false (merged smf.now)) }
-    requires short { All (λ (text : Written). length text.bytes < 2 ^ 32) (map written (output_file (view_setup setup.now) smf.now).tracks) }
-    ensures { IfOk result (λ v. v.items ≡ file_bytes (output_file (view_setup setup.now) smf.now)) }
+    requires format { (view_file smf.now).format ≤ 1 }
+    requires one { (view_file smf.now).format ≡ 0 → length (view_file smf.now).tracks ≡ 1 }
+    requires playable { IsPlayable (length (view_file smf.now).tracks) (written_from (view_setup setup.now) false (merged (view_file smf.now))) }
+    requires short { All (λ (text : Written). length text.bytes < 2 ^ 32) (map written (output_file (view_setup setup.now) (view_file smf.now)).tracks) }
+    ensures { IfOk result (λ v. v.items ≡ file_bytes (output_file (view_setup setup.now) (view_file smf.now))) }
 {
     puts_are_dealt();
     let mut out = TrackSet::new(alloc, smf.tracks())?;
@@ -91,13 +94,13 @@ fn output(alloc: Global, smf: &Smf<'_>, setup: &Setup) -> Result<Vec<u8>, Memory
 /// The output and the report of a source that was accepted.
 fn make(alloc: Global, smf: &Smf<'_>, targets: &Targets, found: &Survey) -> Result<Made, Fault>
     requires values { AllByRecursion IsTuningValue targets.now }
-    requires found { found.now ≡ survey_of (merged smf.now) }
-    requires playable { IsPlayable (length smf.now.tracks) (merged smf.now) }
-    requires format { smf.now.format ≤ 1 }
-    requires one { smf.now.format ≡ 0 → length smf.now.tracks ≡ 1 }
-    requires short { AreShort smf.now }
-    ensures output { IfOk result (λ made. made.output.items ≡ file_bytes (dumped_file targets.now smf.now)) }
-    ensures report { IfOk result (λ made. made.report.items ≡ report_of (merged smf.now)) }
+    requires found { found.now ≡ survey_of (merged (view_file smf.now)) }
+    requires playable { IsPlayable (length (view_file smf.now).tracks) (merged (view_file smf.now)) }
+    requires format { (view_file smf.now).format ≤ 1 }
+    requires one { (view_file smf.now).format ≡ 0 → length (view_file smf.now).tracks ≡ 1 }
+    requires short { AreShort (view_file smf.now) }
+    ensures output { IfOk result (λ made. made.output.items ≡ file_bytes (dumped_file targets.now (view_file smf.now))) }
+    ensures report { IfOk result (λ made. made.report.items ≡ report_of (merged (view_file smf.now))) }
     ensures memory { IfErr result (λ e. e ≡ Fault.Memory) }
 {
     dump_is_playable();
@@ -118,18 +121,15 @@ fn make(alloc: Global, smf: &Smf<'_>, targets: &Targets, found: &Survey) -> Resu
 
 /// What an input gives by a table of the keys' pitches.
 pub fn retuned(alloc: Global, table: &KeyTable, input: &[u8]) -> Result<Made, Fault>
-    requires { length input.now ≤ 4194304 }
-    ensures made { (scaling : Scaling) → IsTable scaling (table_fn table.now) → AreFewTerms scaling → IfOk result (λ made. IsRetuned scaling (table_fn table.now) input.now made.output.items made.report.items) }
+    requires { length input.now ≤ input_limit }
+    ensures made { IfOk result (λ made. MadeOf (table_fn table.now) input.now
+        made.output.items made.report.items) }
     ensures cause { IfErr result (λ e. InputCause (table_fn table.now) input.now e) }
 {
     output_is_spelt();
     output_plays_the_same();
     let targets = targets(table);
-    match read_input(alloc, input) {
-        Err(fault) => Err(fault),
-        Ok(smf) => match accept(&smf, &targets) {
-            Err(fault) => Err(fault),
-            Ok(found) => make(alloc, &smf, &targets, &found),
-        },
-    }
+    let smf = read_input(alloc, input)?;
+    let found = accept(&smf, &targets)?;
+    make(alloc, &smf, &targets, &found)
 }

@@ -1,6 +1,12 @@
 ghost use Rattle.std.specs.Prelude.{◌≡◌, IfOk, IfErr, OnOk};
+ghost use Rattle.mtune_files.specs.Outside.{after_load};
+ghost use Rattle.mtune_core.specs.Call.{IsPrepared, CommandCause, after_loads};
 ghost use Rattle.mtune_core.specs.Command.{view_command};
-ghost use Rattle.mtune_core.specs.Causes.{table_fn, TableFrom, TableCause, MadeFrom, FromCause, CommandCause, IsPrepared};
+ghost use Rattle.mtune_core.specs.Contents.{ContentCause};
+ghost use Rattle.mtune_core.specs.Limits.{text_limit, input_limit};
+ghost use Rattle.mtune_core.specs.Made.{MadeFrom};
+ghost use Rattle.mtune_core.specs.Retuned.{InputCause};
+ghost use Rattle.mtune_core.specs.Table.{table_fn, TableFrom, TextCause};
 
 use crate::contents::{INPUT_LIMIT, TEXT_LIMIT, load, read_scale};
 use crate::making::{Made, retuned};
@@ -13,56 +19,43 @@ use std::alloc::Global;
 
 /// The table of the scale at a name.
 fn load_table<F: Files>(alloc: Global, files: &mut F, name: &str) -> Result<KeyTable, Fault>
-    ensures table { IfOk result (λ t. TableFrom (F.held files.old) name.now (table_fn t)) }
-    ensures cause { IfErr result (λ e. TableCause (F.steady files.old) (F.held files.old) (F.faults files.old) (F.faults files.new) name.now e) }
-    ensures counts { OnOk result (F.faults files.new ≡ F.faults files.old) }
-    ensures says { (F.faults files.new).says ≡ (F.faults files.old).says }
-    ensures held { F.held files.new ≡ F.held files.old }
-    ensures said { F.said files.new ≡ F.said files.old }
-    ensures steady { F.steady files.new ≡ F.steady files.old }
+    ensures table { IfOk result (λ t. TableFrom (F.outside files.old) name.now (table_fn t)) }
+    ensures loaded { OnOk result
+        (F.outside files.new ≡ after_load Which.Scale (F.outside files.old)) }
+    ensures cause { IfErr result (λ e. ContentCause Which.Scale name.now text_limit TextCause
+        (F.outside files.old) (F.outside files.new) e) }
 {
-    match load(alloc, files, Which::Scale, name, TEXT_LIMIT) {
-        Err(fault) => Err(fault),
-        Ok(text) => match read_scale(alloc, &text) {
-            Err(fault) => Err(fault),
-            Ok(scale) => table_at_440(alloc, &scale),
-        },
-    }
+    let text = load(alloc, files, Which::Scale, name, TEXT_LIMIT)?;
+    let scale = read_scale(alloc, &text)?;
+    table_at_440(alloc, &scale)
 }
 
-/// What is made for a command, with a table.
+/// What is made of the input at a name, with a table.
 fn load_input<F: Files>(
     alloc: Global,
     files: &mut F,
     name: &str,
     table: &KeyTable,
 ) -> Result<Made, Fault>
-    ensures made { IfOk result (λ made. MadeFrom (F.held files.old) name.now (table_fn table.now) made.output.items made.report.items) }
-    ensures cause { IfErr result (λ e. FromCause (F.steady files.old) (F.held files.old) (F.faults files.old) (F.faults files.new) name.now (table_fn table.now) e) }
-    ensures counts { OnOk result (F.faults files.new ≡ F.faults files.old) }
-    ensures says { (F.faults files.new).says ≡ (F.faults files.old).says }
-    ensures held { F.held files.new ≡ F.held files.old }
-    ensures said { F.said files.new ≡ F.said files.old }
-    ensures steady { F.steady files.new ≡ F.steady files.old }
+    ensures made { IfOk result (λ made. MadeFrom (F.outside files.old) name.now
+        (table_fn table.now) made.output.items made.report.items) }
+    ensures loaded { OnOk result
+        (F.outside files.new ≡ after_load Which.Input (F.outside files.old)) }
+    ensures cause { IfErr result (λ e. ContentCause Which.Input name.now input_limit
+        (InputCause (table_fn table.now)) (F.outside files.old) (F.outside files.new) e) }
 {
-    match load(alloc, files, Which::Input, name, INPUT_LIMIT) {
-        Err(fault) => Err(fault),
-        Ok(input) => retuned(alloc, table, &input),
-    }
+    let input = load(alloc, files, Which::Input, name, INPUT_LIMIT)?;
+    retuned(alloc, table, &input)
 }
 
 /// All that comes before the store.
 pub fn prepare<F: Files>(alloc: Global, command: &Command<'_>, files: &mut F) -> Result<Made, Fault>
-    ensures made { IfOk result (λ made. IsPrepared (F.held files.old) (view_command command.now) made.output.items made.report.items) }
-    ensures cause { IfErr result (λ e. CommandCause (F.steady files.old) (F.held files.old) (F.faults files.old) (F.faults files.new) (view_command command.now) e) }
-    ensures counts { OnOk result (F.faults files.new ≡ F.faults files.old) }
-    ensures says { (F.faults files.new).says ≡ (F.faults files.old).says }
-    ensures held { F.held files.new ≡ F.held files.old }
-    ensures said { F.said files.new ≡ F.said files.old }
-    ensures steady { F.steady files.new ≡ F.steady files.old }
+    ensures made { IfOk result (λ made. IsPrepared (F.outside files.old) (view_command command.now)
+        made.output.items made.report.items) }
+    ensures loaded { OnOk result (F.outside files.new ≡ after_loads (F.outside files.old)) }
+    ensures cause { IfErr result (λ e. CommandCause (view_command command.now)
+        (F.outside files.old) (F.outside files.new) e) }
 {
-    match load_table(alloc, files, command.scale) {
-        Err(fault) => Err(fault),
-        Ok(table) => load_input(alloc, files, command.input, &table),
-    }
+    let table = load_table(alloc, files, command.scale)?;
+    load_input(alloc, files, command.input, &table)
 }

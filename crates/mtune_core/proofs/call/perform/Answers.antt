@@ -1,62 +1,77 @@
-use Rattle.std.proofs.Common.{◌≡◌, ap, sym, subst, ◌∙◌}
-use Rattle.mtune_files.specs.Names.{IsSameBut, AppendsFront, stored, appended}
-use Rattle.mtune_files.specs.Faults.{Faults, Rose, RisesSays}
-use Rattle.mtune_core.specs.Call.{IsMade}
-use Rattle.mtune_core.specs.Command.{texts, view_command}
+use Rattle.std.proofs.Common.{◌≡◌, ℕ, List, Some, sym, ap, subst, ◌∙◌, inl, inr}
+use Rattle.mtune_files.specs.Outside.{Outside, after_store, AfterFailedStore, after_say, AfterFailedSay}
+use Rattle.mtune_core.specs.declared.outcome.Fault.{Fault}
+use Rattle.mtune_core.specs.declared.outcome.Fault.TheVariants.{Usage, NotYet, Load, TooLong, Scl, ReferenceUnmapped, TooManyPeriods, Smf, Store, Say, Memory}
+use Rattle.mtune_core.specs.Call.{IsMade, CommandCause, IsStopped, after_loads}
+use Rattle.mtune_core.specs.Command.{Command, command_of, texts, view_command}
+use Rattle.mtune_core.proofs.Stages.{handed_on}
+use Rattle.mtune_core.proofs.Steps.{of_err, of_ok, is_stored}
 use Rattle.mtune_core.proofs.call.perform.Goals as goal
 
-pub returns-in-Err-store-clause-refused : goal.returns-in-Err-store-clause-refused
-returns-in-Err-store-clause-refused g c =
-    let made : IsMade (g.F.Files.held c.args.files.now) (texts c.args.words.now) = record {
-      command = view_command c.in-Some.command;
-      output = c.in-Ok.made.output.items;
-      report = c.in-Ok.made.report.items;
-      is_command = sym c.in-Some.ensures;
-      is_prepared = c.in-Ok.ensures.made;
-    } in (
-      made,
-      subst (λ h. IsSameBut made.command.out h (g.F.Files.held c.store.new.self)) c.in-Ok.ensures.held c.in-Err-store.ensures.others,
-      subst (λ (f : Faults). Rose f.stores (g.F.Files.faults c.store.new.self).stores) c.in-Ok.ensures.counts c.in-Err-store.ensures.failed.rose,
-    )
+-- the cause of a command is that of the words
+stopped : (o now : Outside) (words : List (List ℕ)) (c : Command) (fault : Fault) → command_of words ≡ Some c → CommandCause c o now fault → IsStopped o now words fault
+stopped o now words c (NotYet kind) e h = (c, e, h)
+stopped o now words c (Load which) e h = (c, e, h)
+stopped o now words c (TooLong which) e h = (c, e, h)
+stopped o now words c (Scl line kind) e h = (c, e, h)
+stopped o now words c (ReferenceUnmapped key) e h = (c, e, h)
+stopped o now words c (TooManyPeriods key) e h = (c, e, h)
+stopped o now words c (Smf offset kind) e h = (c, e, h)
+stopped o now words c Memory e h = (c, e, h)
+stopped o now words c (Usage kind) e (inl (inl h)) = absurd h
+stopped o now words c (Usage kind) e (inl (inr h)) = absurd h.0.1
+stopped o now words c (Usage kind) e (inr h) = elim h.2 [ inl x ↦ absurd x | inr x ↦ absurd x.0.1 ]
+stopped o now words c Store e (inl (inl h)) = absurd h
+stopped o now words c Store e (inl (inr h)) = absurd h.0.1
+stopped o now words c Store e (inr h) = elim h.2 [ inl x ↦ absurd x | inr x ↦ absurd x.0.1 ]
+stopped o now words c Say e (inl (inl h)) = absurd h
+stopped o now words c Say e (inl (inr h)) = absurd h.0.1
+stopped o now words c Say e (inr h) = elim h.2 [ inl x ↦ absurd x | inr x ↦ absurd x.0.1 ]
 
-pub returns-in-Err-say-clause-refused : goal.returns-in-Err-say-clause-refused
-returns-in-Err-say-clause-refused g c =
-    let made : IsMade (g.F.Files.held c.args.files.now) (texts c.args.words.now) = record {
+pub returns-in_err-made-clause-stopped : goal.returns-in_err-made-clause-stopped
+returns-in_err-made-clause-stopped g c = handed_on c.from_residual.result c.in_err-made.field-0.0 _ c.from_residual.ensures.1
+    (stopped (g.F.Files.outside c.args.files.now) (g.F.Files.outside c.prepare.new.files) (texts c.args.words.now) (view_command c.in-Some.command) c.in_err-made.field-0.0 (sym c.in-Some.ensures) c.in_err-made.ensures.cause)
+
+pub returns-then-is_err-clause-stopped : goal.returns-then-is_err-clause-stopped
+returns-then-is_err-clause-stopped g c =
+    let made : IsMade (g.F.Files.outside c.args.files.now) (texts c.args.words.now) = record {
       command = view_command c.in-Some.command;
-      output = c.in-Ok.made.output.items;
-      report = c.in-Ok.made.report.items;
+      output = c.in_ok-made.made.output.items;
+      report = c.in_ok-made.made.report.items;
       is_command = sym c.in-Some.ensures;
-      is_prepared = c.in-Ok.ensures.made;
+      is_prepared = c.in_ok-made.ensures.made;
     } in
-    let output : c.deref.result.now ≡ made.output = c.deref.ensures.value in
-    let report : c.deref-in-Ok-store.result.now ≡ made.report = c.deref-in-Ok-store.ensures.value in
-    let before : g.F.Files.held c.store.new.self ≡ stored (g.F.Files.held c.prepare.new.files) made.command.out c.deref.result.now = c.in-Ok-store.ensures.stored in
-    let held : g.F.Files.held c.say.new.self ≡ stored (g.F.Files.held c.args.files.now) made.command.out made.output =
-    c.in-Err-say.ensures.held ∙ (before ∙ (ap (λ h. stored h made.command.out c.deref.result.now) c.in-Ok.ensures.held ∙ ap (λ t. stored (g.F.Files.held c.args.files.now) made.command.out t) output)) in
-    let quiet : g.F.Files.said c.store.new.self ≡ g.F.Files.said c.args.files.now = c.in-Ok-store.ensures.said ∙ c.in-Ok.ensures.said in
-    let same : g.F.Files.faults c.store.new.self ≡ g.F.Files.faults c.args.files.now = c.in-Ok-store.ensures.counts ∙ c.in-Ok.ensures.counts in
-    let front : AppendsFront c.deref-in-Ok-store.result.now (g.F.Files.said c.store.new.self) (g.F.Files.said c.say.new.self) = c.in-Err-say.ensures.front in
-    let rises : RisesSays (g.F.Files.faults c.store.new.self) (g.F.Files.faults c.say.new.self) = c.in-Err-say.ensures.failed in (
+    let failed : AfterFailedStore made.command.out (g.F.Files.outside c.prepare.new.files) (g.F.Files.outside c.store.new.self) = of_err c.store.result c.if-is_err.ensures.value c.store.ensures.failed in
+    (made, subst (λ o. AfterFailedStore made.command.out o (g.F.Files.outside c.store.new.self)) c.in_ok-made.ensures.loaded failed)
+
+pub returns-then-is_err-2-clause-stopped : goal.returns-then-is_err-2-clause-stopped
+returns-then-is_err-2-clause-stopped g c =
+    let made : IsMade (g.F.Files.outside c.args.files.now) (texts c.args.words.now) = record {
+      command = view_command c.in-Some.command;
+      output = c.in_ok-made.made.output.items;
+      report = c.in_ok-made.made.report.items;
+      is_command = sym c.in-Some.ensures;
+      is_prepared = c.in_ok-made.ensures.made;
+    } in
+    let stored = is_stored (g.F.Files.outside c.args.files.now) (g.F.Files.outside c.prepare.new.files) (g.F.Files.outside c.store.new.self) made.command.out made.output c.deref.result.now
+    c.in_ok-made.ensures.loaded (of_ok c.store.result c.if-is_err.ensures.value c.store.ensures.stored) c.deref.ensures.value in
+    let failed : AfterFailedSay c.deref-2.result.now (g.F.Files.outside c.store.new.self) (g.F.Files.outside c.say.new.self) = of_err c.say.result c.if-is_err-2.ensures.value c.say.ensures.failed in
+    (
       made,
-      held,
-      subst (λ s. AppendsFront made.report s (g.F.Files.said c.say.new.self)) quiet (subst (λ t. AppendsFront t (g.F.Files.said c.store.new.self) (g.F.Files.said c.say.new.self)) report front),
-      subst (λ (f : Faults). RisesSays f (g.F.Files.faults c.say.new.self)) same rises,
+      subst (λ o. AfterFailedSay made.report o (g.F.Files.outside c.say.new.self)) stored
+          (subst (λ t. AfterFailedSay t (g.F.Files.outside c.store.new.self) (g.F.Files.outside c.say.new.self)) c.deref-2.ensures.value failed),
     )
 
 pub returns-clause-done : goal.returns-clause-done
 returns-clause-done g c =
-    let made : IsMade (g.F.Files.held c.args.files.now) (texts c.args.words.now) = record {
+    let made : IsMade (g.F.Files.outside c.args.files.now) (texts c.args.words.now) = record {
       command = view_command c.in-Some.command;
-      output = c.in-Ok.made.output.items;
-      report = c.in-Ok.made.report.items;
+      output = c.in_ok-made.made.output.items;
+      report = c.in_ok-made.made.report.items;
       is_command = sym c.in-Some.ensures;
-      is_prepared = c.in-Ok.ensures.made;
+      is_prepared = c.in_ok-made.ensures.made;
     } in
-    let output : c.deref.result.now ≡ made.output = c.deref.ensures.value in
-    let report : c.deref-in-Ok-store.result.now ≡ made.report = c.deref-in-Ok-store.ensures.value in
-    let before : g.F.Files.held c.store.new.self ≡ stored (g.F.Files.held c.prepare.new.files) made.command.out c.deref.result.now = c.in-Ok-store.ensures.stored in
-    let held : g.F.Files.held c.say.new.self ≡ stored (g.F.Files.held c.args.files.now) made.command.out made.output =
-    c.in-Ok-say.ensures.held ∙ (before ∙ (ap (λ h. stored h made.command.out c.deref.result.now) c.in-Ok.ensures.held ∙ ap (λ t. stored (g.F.Files.held c.args.files.now) made.command.out t) output)) in
-    let quiet : g.F.Files.said c.store.new.self ≡ g.F.Files.said c.args.files.now = c.in-Ok-store.ensures.said ∙ c.in-Ok.ensures.said in
-    let said : g.F.Files.said c.say.new.self ≡ appended (g.F.Files.said c.store.new.self) c.deref-in-Ok-store.result.now = c.in-Ok-say.ensures.said in
-    (made, held, said ∙ (ap (λ s. appended s c.deref-in-Ok-store.result.now) quiet ∙ ap (λ t. appended (g.F.Files.said c.args.files.now) t) report))
+    let stored = is_stored (g.F.Files.outside c.args.files.now) (g.F.Files.outside c.prepare.new.files) (g.F.Files.outside c.store.new.self) made.command.out made.output c.deref.result.now
+    c.in_ok-made.ensures.loaded (of_ok c.store.result c.if-is_err.ensures.value c.store.ensures.stored) c.deref.ensures.value in
+    let said : g.F.Files.outside c.say.new.self ≡ after_say c.deref-2.result.now (g.F.Files.outside c.store.new.self) = of_ok c.say.result c.if-is_err-2.ensures.value c.say.ensures.said in
+    (made, said ∙ ap (λ o. after_say c.deref-2.result.now o) stored ∙ ap (λ t. after_say t (after_store made.command.out made.output (after_loads (g.F.Files.outside c.args.files.now)))) c.deref-2.ensures.value)

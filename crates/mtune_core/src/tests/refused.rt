@@ -1,0 +1,222 @@
+use super::{E12, ONE_NOTE, WORDS, check, check_refused, file, files};
+use crate::{Fault, run};
+use midi_model::SmfKind;
+use mtune_files::Which;
+use scl_text::SclKind;
+use std::alloc::Global;
+use std::test::Fail;
+
+#[test]
+fn no_words_are_refused(rt: HostRuntime) -> Result<(), Fail> {
+    let alloc = rt.alloc();
+    let mut files = files(alloc, E12, &ONE_NOTE)?;
+    let outcome = run(alloc, &[], &mut files);
+    check(
+        &rt,
+        &files,
+        outcome,
+        Some(Fault::Usage { kind: 1 }),
+        1,
+        "mtune: usage 1\n",
+        None,
+    );
+    assert_eq!(rt; files.count(0), 0);
+    Ok(())
+}
+
+#[test]
+fn wrong_words_are_refused(rt: HostRuntime) -> Result<(), Fail> {
+    let cases: [&[&str]; 5] = [
+        // no input
+        &WORDS[..7],
+        // one word more
+        &[
+            "--scale", "e12.scl", "--a440", "--route", "dump", "--out", "out.mid", "in.mid", "x",
+        ],
+        // no `--a440`
+        &[
+            "--scale", "e12.scl", "--route", "dump", "--out", "out.mid", "in.mid",
+        ],
+        // another route
+        &[
+            "--scale", "e12.scl", "--a440", "--route", "loud", "--out", "out.mid", "in.mid",
+        ],
+        // an option in place of a name
+        &[
+            "--scale", "e12.scl", "--a440", "--route", "dump", "--out", "out.mid", "-in.mid",
+        ],
+    ];
+    let alloc = rt.alloc();
+    for words in cases {
+        let fault = Fault::Usage { kind: 1 };
+        let line = ["mtune: usage ", "1"];
+        check_refused(&rt, alloc, E12, &ONE_NOTE, words, fault, 1, line)?;
+    }
+    Ok(())
+}
+
+#[test]
+fn broken_scales_are_refused(rt: HostRuntime) -> Result<(), Fail> {
+    let cases: [(&str, u32, SclKind, &str); 4] = [
+        ("", 1, SclKind::NoDescription, "1 kind 1"),
+        ("x\n2\n100.0\nnine\n", 4, SclKind::BadPitch, "4 kind 5"),
+        // comments count as lines
+        ("! x\nx\n1\n3/0\n", 4, SclKind::ZeroRatio, "4 kind 7"),
+        ("x\n2\n100.0\n", 4, SclKind::MissingPitch, "4 kind 9"),
+    ];
+    let alloc = rt.alloc();
+    for (scale, line, kind, rest) in cases {
+        let fault = Fault::Scl { line, kind };
+        let line = ["mtune: scale line ", rest];
+        check_refused(&rt, alloc, scale, &ONE_NOTE, &WORDS, fault, 2, line)?;
+    }
+    Ok(())
+}
+
+/// So many bytes, all of them blanks.
+fn blanks(alloc: Global, count: u32) -> Result<Vec<u8>, Fail> {
+    let mut bytes = Vec::new(alloc);
+    for _ in 0..count / 256 {
+        bytes.extend_from_slice(&[b' '; 256])?;
+    }
+    for _ in 0..count % 256 {
+        bytes.push(b' ')?;
+    }
+    Ok(bytes)
+}
+
+#[test]
+fn contents_of_a_byte_too_many_are_refused(rt: HostRuntime) -> Result<(), Fail> {
+    let alloc = rt.alloc();
+    let long = blanks(alloc, 4_194_305)?;
+    let mut files = files(alloc, E12, long.as_slice())?;
+    let outcome = run(alloc, WORDS.as_slice(), &mut files);
+    let fault = Fault::TooLong {
+        which: Which::Input,
+    };
+    let said = "mtune: too long input\n";
+    check(&rt, &files, outcome, Some(fault), 2, said, None);
+    files.add("e12.scl", blanks(alloc, 262_145)?.as_slice())?;
+    let outcome = run(alloc, WORDS.as_slice(), &mut files);
+    let fault = Fault::TooLong {
+        which: Which::Scale,
+    };
+    let said = "mtune: too long input\nmtune: too long scale\n";
+    check(&rt, &files, outcome, Some(fault), 2, said, None);
+    // a content at the limit is read: a description and no count
+    files.add("e12.scl", blanks(alloc, 262_144)?.as_slice())?;
+    let outcome = run(alloc, WORDS.as_slice(), &mut files);
+    let kind = SclKind::NoCount;
+    assert!(rt; outcome.fault == Some(Fault::Scl { line: 2, kind }));
+    Ok(())
+}
+
+#[test]
+fn cut_inputs_are_refused(rt: HostRuntime) -> Result<(), Fail> {
+    let cases: [(&[u8], u32, SmfKind, &str); 5] = [
+        // before the first byte
+        (&[], 0, SmfKind::NotMidi, "0 kind 1"),
+        // in the word that begins a file
+        (&ONE_NOTE[..3], 0, SmfKind::NotMidi, "0 kind 1"),
+        // in the header
+        (&ONE_NOTE[..11], 11, SmfKind::Truncated, "11 kind 5"),
+        // before the track's content
+        (&ONE_NOTE[..18], 14, SmfKind::MissingTrack, "14 kind 6"),
+        // in the track's content
+        (&ONE_NOTE[..28], 28, SmfKind::Truncated, "28 kind 5"),
+    ];
+    let alloc = rt.alloc();
+    for (input, offset, kind, rest) in cases {
+        let fault = Fault::Smf { offset, kind };
+        let line = ["mtune: input byte ", rest];
+        check_refused(&rt, alloc, E12, input, &WORDS, fault, 2, line)?;
+    }
+    Ok(())
+}
+
+#[test]
+fn broken_tracks_are_refused(rt: HostRuntime) -> Result<(), Fail> {
+    let cases: [(&[u8], u32, SmfKind, &str); 4] = [
+        (b"\x81\x82\x83\x84\x05", 25, SmfKind::BadDelta, "25 kind 7"),
+        // running status that a meta event cut
+        (
+            b"\x00\x90\x45\x40\x00\xff\x01\x00\x00\x45\x00\x00\xff\x2f\x00",
+            31,
+            SmfKind::NoStatus,
+            "31 kind 8",
+        ),
+        (b"\x00\xf0\x05\x7e\x7f", 27, SmfKind::Truncated, "27 kind 5"),
+        (
+            b"\x01\xff\x01\x00\xff\xff\xff\x7f\xff\x2f\x00",
+            26,
+            SmfKind::TrackTooLong,
+            "26 kind 12",
+        ),
+    ];
+    let alloc = rt.alloc();
+    for (content, offset, kind, rest) in cases {
+        let input = file(alloc, 0, 1, &[content])?;
+        let fault = Fault::Smf { offset, kind };
+        let line = ["mtune: input byte ", rest];
+        check_refused(&rt, alloc, E12, input.as_slice(), &WORDS, fault, 2, line)?;
+    }
+    Ok(())
+}
+
+#[test]
+fn formats_above_1_are_refused(rt: HostRuntime) -> Result<(), Fail> {
+    let cases: [(u8, SmfKind, &str); 2] = [
+        (2, SmfKind::Format2, "8 kind 3"),
+        (3, SmfKind::FormatNumber, "8 kind 4"),
+    ];
+    let alloc = rt.alloc();
+    for (format, kind, rest) in cases {
+        let input = file(alloc, format, 1, &[b"\x00\xff\x2f\x00"])?;
+        let fault = Fault::Smf { offset: 8, kind };
+        let line = ["mtune: input byte ", rest];
+        check_refused(&rt, alloc, E12, input.as_slice(), &WORDS, fault, 2, line)?;
+    }
+    Ok(())
+}
+
+#[test]
+fn what_is_not_taken_yet_is_refused(rt: HostRuntime) -> Result<(), Fail> {
+    let alloc = rt.alloc();
+    let words = WORDS.as_slice();
+    // a reset of the receiver; data entry on a part that is retuned
+    let rows: [&[u8]; 2] = [
+        b"\x00\xf0\x05\x7e\x7f\x09\x01\xf7\x00\xff\x2f\x00",
+        b"\x00\xb0\x06\x02\x00\xff\x2f\x00",
+    ];
+    for content in rows {
+        let input = file(alloc, 0, 1, &[content])?;
+        let fault = Fault::NotYet { kind: 2 };
+        check_refused(
+            &rt,
+            alloc,
+            E12,
+            input.as_slice(),
+            words,
+            fault,
+            2,
+            ["mtune: not yet ", "2"],
+        )?;
+    }
+    // key 69 is at 6,900 cents, so in steps of an octave key 63 is 300 cents below the device's lowest pitch
+    let low = file(
+        alloc,
+        0,
+        1,
+        &[b"\x00\x90\x3f\x40\x10\x80\x3f\x40\x00\xff\x2f\x00"],
+    )?;
+    check_refused(
+        &rt,
+        alloc,
+        "octaves\n1\n1200.0\n",
+        low.as_slice(),
+        words,
+        Fault::NotYet { kind: 3 },
+        2,
+        ["mtune: not yet ", "3"],
+    )
+}
