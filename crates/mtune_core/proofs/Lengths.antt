@@ -15,7 +15,7 @@ use Rattle.event_stream.specs.Distributed.{events_in, distributed_from}
 use Rattle.retune_model.specs.Blocks.{all_events}
 use Rattle.retune_model.specs.Dump.{dump_if}
 use Rattle.retune_model.specs.Routes.{Setup, sends, selects}
-use Rattle.mtune_core.specs.declared.dump.Setup as program
+use Rattle.mtune_core.specs.declared.translating.Setup as program
 use Rattle.mtune_core.specs.OutputLaws.{IsShortSetup, TracksAreShort}
 use Rattle.mtune_core.specs.Putting.{any_of, marked, view_setup, dump_events, select_events, setup_if, is_first, is_again, has_begun, block_events, written_from}
 use Rattle.mtune_core.proofs.Dealt.{timed_placed, track_in_order}

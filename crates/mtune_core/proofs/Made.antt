@@ -7,7 +7,7 @@ use Rattle.mt_base.specs.Valid.{IsValidEvent}
 use Rattle.midi_model.specs.Merged.{IsPlayable}
 use Rattle.midi_model.specs.TuningBytes.{dump_bytes}
 use Rattle.retune_model.specs.Dump.{dumped, dump_setup}
-use Rattle.mtune_core.specs.declared.dump.Setup.{Setup}
+use Rattle.mtune_core.specs.declared.translating.Setup.{Setup}
 use Rattle.mtune_core.specs.Chosen.{dump_options}
 use Rattle.mtune_core.specs.Survey.{survey_of}
 use Rattle.mtune_core.specs.Putting.{written_from, view_setup}

@@ -17,7 +17,7 @@ use Rattle.retune_model.specs.Dump.{dumped, tuning_if, tuning_at, values_from, I
 use Rattle.retune_model.specs.Dumpable.{IsDumpable}
 use Rattle.mtune_core.specs.Source.{note_on}
 use Rattle.mtune_core.specs.Chosen.{dump_options, is_on_key, uses_key}
-use Rattle.mtune_core.specs.Answers.{dumped_file}
+use Rattle.mtune_core.specs.Output.{dumped_file}
 use Rattle.mtune_core.specs.OutputLaws.{TakenIsFaultless, OutputPlaysTheSame}
 use Rattle.mtune_core.proofs.Dealt.{length_dealt}
 use Rattle.mtune_core.proofs.Premises.{SameLaws}

@@ -10,17 +10,17 @@ use Rattle.midi_model.specs.Writing.{file_bytes}
 use Rattle.retune_model.specs.Dump.{tuning_if, tuning_at, values_from}
 use Rattle.key_pitch.specs.Aims.{table_of}
 use Rattle.key_pitch.specs.declared.table.KeyTable.{KeyTable}
-use Rattle.mtune_core.specs.declared.making.Made.{Made}
+use Rattle.mtune_core.specs.declared.retuning.Made.{Made}
 use Rattle.mtune_core.specs.declared.outcome.Fault.{Fault}
 use Rattle.mtune_core.specs.declared.outcome.Fault.TheVariants.{Usage, NotYet, Load, TooLong, Scl, ReferenceUnmapped, TooManyPeriods, Smf, Store, Say, Memory}
 use Rattle.mtune_core.specs.declared.survey.Survey.{Survey}
-use Rattle.mtune_core.specs.Answers.{dumped_file, report_of, ArePlayed, IsRefusal}
+use Rattle.mtune_core.specs.Output.{dumped_file, report_of}
+use Rattle.mtune_core.specs.Survey.{ArePlayed, IsRefusal, survey_of}
 use Rattle.mtune_core.specs.Limits.{input_limit}
 use Rattle.mtune_core.specs.Made.{MadeOf}
 use Rattle.mtune_core.specs.Retuned.{AreTaken, HaveTargets, InputCause}
 use Rattle.mtune_core.specs.Table.{table_fn}
 use Rattle.mtune_core.specs.Chosen.{uses_key}
-use Rattle.mtune_core.specs.Survey.{survey_of}
 use Rattle.mtune_core.specs.OutputLaws.{OutputIsSpelt, TakenIsFaultless, OutputPlaysTheSame}
 use Rattle.mtune_core.proofs.PlaysSame.{values_are, values_count, dump_length}
 use Rattle.mtune_core.proofs.SurveyFacts.{found_keys, found_taken, found_untaken}

@@ -1,13 +1,13 @@
 -- The outside from step to step of a call.
-use Rattle.std.proofs.Common.{◌≡◌, ℕ, List, true, false, Result, Ok, Err, sym, ap, subst, ◌∙◌, inl, inr}
+use Rattle.std.proofs.Common.{◌≡◌, ℕ, List, true, false, Some, Result, Ok, Err, sym, ap, subst, ◌∙◌, inl, inr}
 use Rattle.std.specs.Prelude.{IfOk, IfErr, OnOk, OnErr, is_err}
 use Rattle.retune_model.specs.Faults.{Targets}
 use Rattle.mtune_files.specs.Outside.{Outside, after_load, after_store, AfterFailedStore, after_say, AfterFailedSay}
 use Rattle.mtune_files.specs.declared.which.Which.TheVariants.{Scale, Input}
-use Rattle.mtune_core.specs.declared.making.Made.{Made}
+use Rattle.mtune_core.specs.declared.retuning.Made.{Made}
 use Rattle.mtune_core.specs.declared.outcome.Fault.{Fault}
-use Rattle.mtune_core.specs.Call.{IsPrepared, CommandCause, after_loads}
-use Rattle.mtune_core.specs.Command.{Command}
+use Rattle.mtune_core.specs.Call.{IsPrepared, IsMade, CommandCause, after_loads}
+use Rattle.mtune_core.specs.Command.{Command, command_of}
 use Rattle.mtune_core.specs.Contents.{ContentCause}
 use Rattle.mtune_core.specs.Limits.{input_limit}
 use Rattle.mtune_core.specs.Made.{MadeFrom}
@@ -34,6 +34,9 @@ pub input_stopped : (r : Result Made Fault) (o mid now : Outside) (c : Command) 
     → IfErr r (λ e. ContentCause Input c.input input_limit (InputCause table) mid now e) → IfErr r (λ e. CommandCause c o now e)
 input_stopped (Ok made) o mid now c table e t h = tt
 input_stopped (Err fault) o mid now c table e t h = inr (table, t, subst (λ p. ContentCause Input c.input input_limit (InputCause table) p now fault) e h)
+
+abbrev pub made_for : (o : Outside) (words : List (List ℕ)) (c : Command) (output report : List ℕ) → command_of words ≡ Some c → IsPrepared o c output report → IsMade o words
+made_for o words c output report is_command is_prepared = record { command = c; output = output; report = report; is_command = is_command; is_prepared = is_prepared }
 
 -- ---- the store and the say
 pub of_err : {T E : Type 0} {P : Type 0} (r : Result T E) → true ≡ is_err r → OnErr r P → P

@@ -11,7 +11,7 @@ use Rattle.retune_model.specs.PlaysTheSame.{begins_note}
 use Rattle.retune_model.specs.Routes as routes
 use Rattle.retune_model.specs.Dump.{has_note_on, from_up, sounding_parts, dump_if, dump_setup}
 use Rattle.mtune_core.specs.declared.survey.Survey.{Survey}
-use Rattle.mtune_core.specs.declared.dump.Setup.{Setup}
+use Rattle.mtune_core.specs.declared.translating.Setup.{Setup}
 use Rattle.mtune_core.specs.Source.{is_retuned, is_taken, note_on}
 use Rattle.mtune_core.specs.Survey.{nothing, with_note, with_event, survey_from, survey_of}
 use Rattle.mtune_core.specs.Putting.{any_of, marked, view_setup}

@@ -16,7 +16,7 @@ use Rattle.midi_model.specs.Writing.{Written, written, track_bytes, IsWritable, 
 use Rattle.event_stream.specs.Distributed.{events_in, distributed}
 use Rattle.retune_model.specs.Dump.{from_up, has_note_on, dump_setup, dumped}
 use Rattle.retune_model.specs.Faults.{is_part}
-use Rattle.mtune_core.specs.Answers.{dumped_file}
+use Rattle.mtune_core.specs.Output.{dumped_file}
 use Rattle.mtune_core.specs.Chosen.{dump_options}
 use Rattle.mtune_core.specs.OutputLaws.{IsShortSetup, TracksAreShort, OutputIsSpelt}
 use Rattle.mtune_core.proofs.Premises.{SpeltLaws}

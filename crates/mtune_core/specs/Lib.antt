@@ -1,5 +1,6 @@
 pub mod Limits
 pub mod Status
+pub mod Causes
 pub mod Command
 pub mod Lines
 pub mod Contents
@@ -8,7 +9,7 @@ pub mod Source
 pub mod Survey
 pub mod Chosen
 pub mod Putting
-pub mod Answers
+pub mod Output
 pub mod Retuned
 pub mod OutputLaws
 pub mod Made

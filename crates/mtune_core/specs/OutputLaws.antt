@@ -14,7 +14,7 @@ use Rattle.retune_model.specs.Faults.{Targets, IsFaultless}
 use Rattle.retune_model.specs.Dump.{tuning_at, values_from}
 use Rattle.retune_model.specs.PlaysTheSame.{PlaysTheSame}
 use Rattle.retune_model.specs.Routes.{Setup}
-use Rattle.mtune_core.specs.Answers.{dumped_file}
+use Rattle.mtune_core.specs.Output.{dumped_file}
 use Rattle.mtune_core.specs.Chosen.{dump_options}
 use Rattle.mtune_core.specs.Limits.{input_limit}
 use Rattle.mtune_core.specs.Putting.{AllMayPut, put_all, written_from}

@@ -11,7 +11,7 @@ use Rattle.retune_model.specs.Blocks.{all_events}
 use Rattle.retune_model.specs.Dump.{dump_if}
 use Rattle.retune_model.specs.Routes.{sends, selects}
 use Rattle.retune_model.specs.Routes as routes
-use Rattle.mtune_core.specs.declared.dump.Setup.{Setup}
+use Rattle.mtune_core.specs.declared.translating.Setup.{Setup}
 use Rattle.mtune_core.specs.Source.{is_message}
 
 -- the tracks with one event more

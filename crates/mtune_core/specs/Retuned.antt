@@ -14,7 +14,7 @@ use Rattle.retune_model.specs.Dump.{tuning_at, values_from}
 use Rattle.retune_model.specs.PlaysTheSame.{PlaysTheSame}
 use Rattle.mtune_core.specs.declared.outcome.Fault.{Fault}
 use Rattle.mtune_core.specs.declared.outcome.Fault.TheVariants.{NotYet, Smf, Memory}
-use Rattle.mtune_core.specs.Answers.{dumped_file, report_of}
+use Rattle.mtune_core.specs.Output.{dumped_file, report_of}
 use Rattle.mtune_core.specs.Chosen.{dump_options, uses_key}
 use Rattle.mtune_core.specs.Source.{is_taken}
 

@@ -1,5 +1,5 @@
 -- The exit status of a fault.
-use Rattle.std.specs.Prelude.{ℕ}
+use Rattle.std.specs.Prelude.{ℕ, Option, Some, None}
 use Rattle.mtune_core.specs.declared.outcome.Fault.{Fault}
 use Rattle.mtune_core.specs.declared.outcome.Fault.TheVariants.{Usage, NotYet, Load, TooLong, Scl, ReferenceUnmapped, TooManyPeriods, Smf, Store, Say, Memory}
 
@@ -15,3 +15,8 @@ status_of (Load which) = 3
 status_of Store = 3
 status_of Say = 3
 status_of Memory = 4
+
+-- 0, or the status of the fault
+abbrev pub status_if : Option Fault → ℕ
+status_if None = 0
+status_if (Some fault) = status_of fault

@@ -1,13 +1,13 @@
 ghost use Rattle.std.specs.Prelude.{◌≡◌, IfSome, IfNone, IfErr, OnOk};
 ghost use Rattle.mtune_core.specs.Accepted.{IsAccepted, NoneRose};
-ghost use Rattle.mtune_core.specs.Answers.{status_if};
+ghost use Rattle.mtune_core.specs.Status.{status_if};
 ghost use Rattle.mtune_core.specs.Call.{IsDone, IsStopped, IsTold, IsRefused};
 ghost use Rattle.mtune_core.specs.Command.{texts};
 
 use crate::accepted::accepted_has_no_fault;
-use crate::lines::line_of;
+use crate::reporting::line_of;
 use crate::outcome::{Fault, Outcome, status};
-use crate::retune::prepare;
+use crate::preparing::prepare;
 use crate::words::read_words;
 use mtune_files::Files;
 use std::alloc::Global;

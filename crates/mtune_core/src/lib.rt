@@ -3,16 +3,17 @@
 
 mod accepted;
 mod call;
-mod contents;
-mod dump;
 mod laws;
-mod lines;
-mod making;
+mod loading;
 mod outcome;
-mod retune;
+mod preparing;
+mod reading;
+mod reporting;
+mod retuning;
 mod source;
 mod survey;
-mod targets;
+mod table;
+mod translating;
 mod words;
 
 pub use accepted::keys_in_reach_are_playable;

@@ -1,9 +1,13 @@
 ghost use Rattle.std.specs.Prelude.{◌≡◌};
 ghost use Rattle.mtune_core.specs.Status.{status_of};
+ghost use Rattle.mtune_core.specs.Causes.{of_memory, of_scale, of_tuning, of_file};
 
+use key_pitch::TuneFault;
 use midi_model::SmfKind;
+use mt_base::Memory;
 use mtune_files::Which;
-use scl_text::SclKind;
+use scl_text::{SclFault, SclKind};
+use smf_read::SmfFault;
 
 /// How a call of `run` ended: status 0 without a fault, or the status of its fault.
 #[derive(Debug, PartialEq, Eq, Drop)]
@@ -44,5 +48,46 @@ pub fn status(fault: &Fault) -> u8
         | Fault::Smf { .. } => 2,
         Fault::Load { .. } | Fault::Store | Fault::Say => 3,
         Fault::Memory => 4,
+    }
+}
+
+impl From<Memory> for Fault {
+    ghost from_gives = { λ memory fault. fault ≡ of_memory };
+
+    fn from(_memory: Memory) -> Fault {
+        Fault::Memory
+    }
+}
+
+impl From<SclFault> for Fault {
+    ghost from_gives = { λ fault given. given ≡ of_scale fault };
+
+    fn from(fault: SclFault) -> Fault {
+        match fault {
+            SclFault::At { line, kind } => Fault::Scl { line, kind },
+            SclFault::Memory => Fault::Memory,
+        }
+    }
+}
+
+impl From<TuneFault> for Fault {
+    ghost from_gives = { λ fault given. given ≡ of_tuning fault };
+
+    fn from(fault: TuneFault) -> Fault {
+        match fault {
+            TuneFault::ReferenceUnmapped { key } => Fault::ReferenceUnmapped { key },
+            TuneFault::TooManyPeriods { key } => Fault::TooManyPeriods { key },
+        }
+    }
+}
+
+impl From<SmfFault> for Fault {
+    ghost from_gives = { λ fault given. given ≡ of_file fault };
+
+    fn from(fault: SmfFault) -> Fault {
+        match fault {
+            SmfFault::At { offset, kind } => Fault::Smf { offset, kind },
+            SmfFault::Memory => Fault::Memory,
+        }
     }
 }

@@ -5,7 +5,7 @@ use Rattle.mtune_core.specs.declared.outcome.Fault.TheVariants.{Usage, NotYet, L
 use Rattle.mtune_core.specs.Call.{IsMade, CommandCause, IsStopped, after_loads}
 use Rattle.mtune_core.specs.Command.{Command, command_of, texts, view_command}
 use Rattle.mtune_core.proofs.Stages.{handed_on}
-use Rattle.mtune_core.proofs.Steps.{of_err, of_ok, is_stored}
+use Rattle.mtune_core.proofs.Steps.{made_for, of_err, of_ok, is_stored}
 use Rattle.mtune_core.proofs.call.perform.Goals as goal
 
 -- the cause of a command is that of the words
@@ -34,25 +34,15 @@ returns-in_err-made-clause-stopped g c = handed_on c.from_residual.result c.in_e
 
 pub returns-then-is_err-clause-stopped : goal.returns-then-is_err-clause-stopped
 returns-then-is_err-clause-stopped g c =
-    let made : IsMade (g.F.Files.outside c.args.files.now) (texts c.args.words.now) = record {
-      command = view_command c.in-Some.command;
-      output = c.in_ok-made.made.output.items;
-      report = c.in_ok-made.made.report.items;
-      is_command = sym c.in-Some.ensures;
-      is_prepared = c.in_ok-made.ensures.made;
-    } in
+    let made : IsMade (g.F.Files.outside c.args.files.now) (texts c.args.words.now) = made_for (g.F.Files.outside c.args.files.now) (texts c.args.words.now) (view_command c.in-Some.command) c.in_ok-made.made.output.items c.in_ok-made.made.report.items
+    (sym c.in-Some.ensures) c.in_ok-made.ensures.made in
     let failed : AfterFailedStore made.command.out (g.F.Files.outside c.prepare.new.files) (g.F.Files.outside c.store.new.self) = of_err c.store.result c.if-is_err.ensures.value c.store.ensures.failed in
     (made, subst (λ o. AfterFailedStore made.command.out o (g.F.Files.outside c.store.new.self)) c.in_ok-made.ensures.loaded failed)
 
 pub returns-then-is_err-2-clause-stopped : goal.returns-then-is_err-2-clause-stopped
 returns-then-is_err-2-clause-stopped g c =
-    let made : IsMade (g.F.Files.outside c.args.files.now) (texts c.args.words.now) = record {
-      command = view_command c.in-Some.command;
-      output = c.in_ok-made.made.output.items;
-      report = c.in_ok-made.made.report.items;
-      is_command = sym c.in-Some.ensures;
-      is_prepared = c.in_ok-made.ensures.made;
-    } in
+    let made : IsMade (g.F.Files.outside c.args.files.now) (texts c.args.words.now) = made_for (g.F.Files.outside c.args.files.now) (texts c.args.words.now) (view_command c.in-Some.command) c.in_ok-made.made.output.items c.in_ok-made.made.report.items
+    (sym c.in-Some.ensures) c.in_ok-made.ensures.made in
     let stored = is_stored (g.F.Files.outside c.args.files.now) (g.F.Files.outside c.prepare.new.files) (g.F.Files.outside c.store.new.self) made.command.out made.output c.deref.result.now
     c.in_ok-made.ensures.loaded (of_ok c.store.result c.if-is_err.ensures.value c.store.ensures.stored) c.deref.ensures.value in
     let failed : AfterFailedSay c.deref-2.result.now (g.F.Files.outside c.store.new.self) (g.F.Files.outside c.say.new.self) = of_err c.say.result c.if-is_err-2.ensures.value c.say.ensures.failed in
@@ -64,13 +54,8 @@ returns-then-is_err-2-clause-stopped g c =
 
 pub returns-clause-done : goal.returns-clause-done
 returns-clause-done g c =
-    let made : IsMade (g.F.Files.outside c.args.files.now) (texts c.args.words.now) = record {
-      command = view_command c.in-Some.command;
-      output = c.in_ok-made.made.output.items;
-      report = c.in_ok-made.made.report.items;
-      is_command = sym c.in-Some.ensures;
-      is_prepared = c.in_ok-made.ensures.made;
-    } in
+    let made : IsMade (g.F.Files.outside c.args.files.now) (texts c.args.words.now) = made_for (g.F.Files.outside c.args.files.now) (texts c.args.words.now) (view_command c.in-Some.command) c.in_ok-made.made.output.items c.in_ok-made.made.report.items
+    (sym c.in-Some.ensures) c.in_ok-made.ensures.made in
     let stored = is_stored (g.F.Files.outside c.args.files.now) (g.F.Files.outside c.prepare.new.files) (g.F.Files.outside c.store.new.self) made.command.out made.output c.deref.result.now
     c.in_ok-made.ensures.loaded (of_ok c.store.result c.if-is_err.ensures.value c.store.ensures.stored) c.deref.ensures.value in
     let said : g.F.Files.outside c.say.new.self ≡ after_say c.deref-2.result.now (g.F.Files.outside c.store.new.self) = of_ok c.say.result c.if-is_err-2.ensures.value c.say.ensures.said in

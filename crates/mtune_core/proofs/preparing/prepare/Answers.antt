@@ -1,0 +1,12 @@
+use Rattle.mtune_core.specs.Command.{view_command}
+use Rattle.mtune_core.specs.Table.{table_fn}
+use Rattle.mtune_core.proofs.Steps.{prepared, input_stopped}
+use Rattle.mtune_core.proofs.preparing.prepare.Goals as goal
+
+pub returns-clause-made : goal.returns-clause-made
+returns-clause-made g c = prepared c.load_input.result (g.F.Files.outside c.args.files.now) (g.F.Files.outside c.load_table.new.files) (view_command c.args.command.now) (table_fn c.in_ok-table.table)
+    c.in_ok-table.ensures.loaded c.in_ok-table.ensures.table c.load_input.ensures.made
+
+pub returns-clause-cause : goal.returns-clause-cause
+returns-clause-cause g c = input_stopped c.load_input.result (g.F.Files.outside c.args.files.now) (g.F.Files.outside c.load_table.new.files) (g.F.Files.outside c.load_input.new.files) (view_command c.args.command.now) (table_fn c.in_ok-table.table)
+    c.in_ok-table.ensures.loaded c.in_ok-table.ensures.table c.load_input.ensures.cause

@@ -1,0 +1,24 @@
+-- What the program answers for a fault of its parts.
+use Rattle.scl_text.specs.declared.fault.SclFault.{SclFault}
+use Rattle.scl_text.specs.declared.fault.SclFault.TheVariants as scl
+use Rattle.smf_read.specs.declared.fault.SmfFault.{SmfFault}
+use Rattle.smf_read.specs.declared.fault.SmfFault.TheVariants as smf
+use Rattle.key_pitch.specs.declared.fault.TuneFault.{TuneFault}
+use Rattle.key_pitch.specs.declared.fault.TuneFault.TheVariants as tune
+use Rattle.mtune_core.specs.declared.outcome.Fault.{Fault}
+use Rattle.mtune_core.specs.declared.outcome.Fault.TheVariants.{Scl, ReferenceUnmapped, TooManyPeriods, Smf, Memory}
+
+abbrev pub of_memory : Fault
+of_memory = Memory
+
+abbrev pub of_scale : SclFault → Fault
+of_scale (scl.At line kind) = Scl line kind
+of_scale scl.Memory = Memory
+
+abbrev pub of_tuning : TuneFault → Fault
+of_tuning (tune.ReferenceUnmapped key) = ReferenceUnmapped key
+of_tuning (tune.TooManyPeriods key) = TooManyPeriods key
+
+abbrev pub of_file : SmfFault → Fault
+of_file (smf.At offset kind) = Smf offset kind
+of_file smf.Memory = Memory

@@ -1,0 +1,35 @@
+-- The output of a source, and the report on it.
+use Rattle.std.specs.Prelude.{ℕ, ◌≡◌, ◌<◌, List, length, false, count_by, Option}
+use Rattle.mt_base.specs.Midi.{MidiEvent}
+use Rattle.midi_model.specs.FileText.{MidiFile}
+use Rattle.midi_model.specs.Merged.{merged}
+use Rattle.midi_model.specs.Spelling.{Spells}
+use Rattle.midi_model.specs.TuningBytes.{dump_bytes}
+use Rattle.event_stream.specs.Distributed.{distributed}
+use Rattle.retune_model.specs.PlaysTheSame.{begins_note}
+use Rattle.retune_model.specs.Faults.{is_part}
+use Rattle.retune_model.specs.Dump.{dumped, sounding_parts}
+use Rattle.retune_model.specs.Routes.{Setup}
+use Rattle.mtune_core.specs.Chosen.{dump_options}
+use Rattle.mtune_core.specs.Lines.{report_text}
+use Rattle.mtune_core.specs.Putting.{written_from}
+
+-- the same format, division and number of tracks, with other events
+abbrev pub with_events : MidiFile → List MidiEvent → MidiFile
+with_events source es = record { format = source.format; division = source.division; tracks = distributed (length source.tracks) es }
+
+-- the output of a source with a setup
+abbrev pub output_file : Setup → MidiFile → MidiFile
+output_file s source = with_events source (written_from s false (merged source))
+
+-- The output of the dump route for a source, where these are the targets of the 128 keys.
+abbrev pub dumped_file : List (Option ℕ) → MidiFile → MidiFile
+dumped_file targets source = with_events source (dumped dump_options (dump_bytes 0 targets) (merged source))
+
+-- whatever the setup, each track fits in its chunk
+abbrev pub AreShort : MidiFile → Type 0
+AreShort source = (bytes : List ℕ) × Spells bytes source × (length bytes < 4194305)
+
+-- of the retuned notes, and of the channels that they are on
+abbrev pub report_of : List MidiEvent → List ℕ
+report_of es = report_text (count_by (λ e. begins_note (is_part dump_options) e.what) es) (length (sounding_parts dump_options es))
