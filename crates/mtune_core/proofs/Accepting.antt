@@ -1,5 +1,5 @@
 -- Where the words and the contents are accepted and no count rose, no fault but want of memory has its cause.
-use Rattle.std.proofs.Common.{◌≡◌, ◌<◌, ◌≤◌, ◌⊎◌, ℕ, List, [], ◌∷◌, ◌++◌, length, true, Option, Some, None, is_some, refl, ap, sym, subst, ◌∙◌, inl, inr, arith}
+use Rattle.std.proofs.Common.{◌≡◌, ◌<◌, ◌≤◌, ◌⊎◌, ℕ, List, [], ◌∷◌, ◌++◌, length, true, Option, Some, None, is_some, refl, ap, subst, ◌∙◌, inl, inr, arith}
 use Rattle.std.specs.List.{AllByRecursion}
 use Rattle.mt_base.specs.Midi.{MidiEvent}
 use Rattle.scala_lines.specs.Lines.{lines_of}
@@ -17,16 +17,16 @@ use Rattle.retune_model.specs.Faults.{Targets}
 use Rattle.key_pitch.specs.Views.{steps_of}
 use Rattle.mtune_files.specs.Counts.{next, one_load, one_store, one_say, loads_of}
 use Rattle.mtune_files.specs.Names.{Held, content_at}
-use Rattle.mtune_files.specs.Outside.{Outside, IsContent, HasContent, after_load, after_failed_load}
+use Rattle.mtune_files.specs.Outside.{Outside, IsContent, HasContent, after_load}
 use Rattle.mtune_files.specs.declared.counts.Counts.{Counts}
 use Rattle.mtune_files.specs.declared.which.Which.{Which}
 use Rattle.mtune_files.specs.declared.which.Which.TheVariants.{Scale, Map, Input}
 use Rattle.mtune_core.specs.declared.outcome.Fault.{Fault}
 use Rattle.mtune_core.specs.declared.outcome.Fault.TheVariants.{Usage, NotYet, Load, TooLong, Scl, ReferenceUnmapped, TooManyPeriods, Smf, Store, Say, Memory}
 use Rattle.mtune_core.specs.Accepted.{IsAccepted, NoneRose}
-use Rattle.mtune_core.specs.Call.{CommandCause, IsTold, IsRefused}
+use Rattle.mtune_core.specs.Call.{CommandCause, IsRefused}
 use Rattle.mtune_core.specs.Command.{Command, command_of}
-use Rattle.mtune_core.specs.Contents.{At, LoadCause, ContentCause}
+use Rattle.mtune_core.specs.Contents.{At, LoadCause}
 use Rattle.mtune_core.specs.Limits.{text_limit, input_limit}
 use Rattle.mtune_core.specs.Lines.{fault_line}
 use Rattle.mtune_core.specs.Retuned.{AreTaken, HasUntaken, HasUnplayed, InputCause}

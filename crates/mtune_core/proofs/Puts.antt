@@ -1,6 +1,7 @@
 -- Events that are put one after the other.
-use Rattle.std.proofs.Common.{◌≡◌, ℕ, ◌+◌, ◌-◌, ◌≤◌, ◌<◌, List, [], ◌∷◌, ◌++◌, length, take, drop, slice_index_or, Bool, true, false, refl, ap, sym, subst, ◌∙◌, arith}
-use Rattle.std.proofs.lemmas.List.{take_all}
+use Rattle.std.proofs.Common.{◌≡◌, ℕ, ◌+◌, ◌≤◌, ◌<◌, List, [], ◌∷◌, ◌++◌, suc, length, drop, get_or, slice_index_or, Bool, true, false, refl, ap, sym, subst, ◌∙◌, arith}
+use Rattle.std.proofs.Math.ListN.{drop_of_length-le}
+use Rattle.std.proofs.Math.Seq.{drop-cons}
 use Rattle.mt_base.specs.Midi.{MidiEvent}
 use Rattle.midi_model.specs.Writing.{Written}
 use Rattle.event_stream.specs.Distributed.{MayPut}
@@ -24,31 +25,26 @@ may_behind texts (x ∷ xs) ys h = may_behind (put_one texts x) xs ys h.1
 
 -- ---- parts of what the dump route puts
 
--- a list with an element begins with it
-one_front : (bs : List Bool) → 1 ≤ length bs → bs ≡ slice_index_or bs 0 false ∷ take (length bs - 1) (drop 1 bs)
-one_front [] h = absurd (omega (arith, h))
-one_front (b ∷ bs) h = ap (λ r. b ∷ r) (sym (take_all (length (b ∷ bs) - 1) bs (omega arith)))
-
 select_next : (program : ℕ) (e : MidiEvent) (c : ℕ) (b : Bool) (bs : List Bool)
     → select_events program e (marked c (b ∷ bs)) ≡ select_if b program e c ++ select_events program e (marked (c + 1) bs)
 select_next program e c b bs =
     elim b as (λ w. select_events program e (marked c (w ∷ bs)) ≡ select_if w program e c ++ select_events program e (marked (c + 1) bs)) [ true ↦ refl | false ↦ refl ]
 
-pub select_front : (program : ℕ) (e : MidiEvent) (c : ℕ) (bs : List Bool) → 1 ≤ length bs
-    → select_events program e (marked c bs) ≡ select_if (slice_index_or bs 0 false) program e c ++ select_events program e (marked (c + 1) (take (length bs - 1) (drop 1 bs)))
-select_front program e c bs h =
-    ap (λ l. select_events program e (marked c l)) (one_front bs h) ∙ select_next program e c (slice_index_or bs 0 false) (take (length bs - 1) (drop 1 bs))
+-- the selections from a place on: that of its channel, if it is marked, and those behind it
+pub selects_from : (program : ℕ) (e : MidiEvent) (bs : List Bool) (i : ℕ) → i < length bs
+    → select_events program e (marked i (drop i bs)) ≡ select_if (slice_index_or bs i false) program e i ++ select_events program e (marked (i + 1) (drop (i + 1) bs))
+selects_from program e bs i h =
+    let next : suc i ≡ i + 1 = omega arith in
+    ap (λ l. select_events program e (marked i l)) (drop-cons bs i false h)
+    ∙ select_next program e i (get_or bs i false) (drop (suc i) bs)
+    ∙ ap (λ (k : ℕ). select_if (get_or bs i false) program e i ++ select_events program e (marked (i + 1) (drop k bs))) next
 
-pub rest_len : (bs : List Bool) → 1 ≤ length bs → length (take (length bs - 1) (drop 1 bs)) + 1 ≡ length bs
-rest_len bs h = omega (arith, ap length (one_front bs h))
+pub no_selects : (program : ℕ) (e : MidiEvent) (bs : List Bool) (i : ℕ) → length bs ≤ i → select_events program e (marked i (drop i bs)) ≡ []
+no_selects program e bs i h = ap (λ l. select_events program e (marked i l)) (drop_of_length-le bs h)
 
 pub nothing_written : (s : Setup) (begun : Bool) (es : List MidiEvent) → es ≡ [] → written_from s begun es ≡ []
 unfolding written_from
 nothing_written s begun es e = ap (written_from s begun) e
-
-pub no_select : (program : ℕ) (e : MidiEvent) (c : ℕ) (bs : List Bool) → length bs < 1 → select_events program e (marked c bs) ≡ []
-no_select program e c [] h = refl
-no_select program e c (b ∷ bs) h = absurd (omega (arith, h))
 
 pub none_put : (texts : List Written) (es : List MidiEvent) → es ≡ [] → texts ≡ put_all texts es
 unfolding put_all

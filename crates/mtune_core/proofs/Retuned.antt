@@ -20,7 +20,6 @@ use Rattle.mtune_core.specs.Limits.{input_limit}
 use Rattle.mtune_core.specs.Made.{MadeOf}
 use Rattle.mtune_core.specs.Retuned.{AreTaken, HaveTargets, InputCause}
 use Rattle.mtune_core.specs.Table.{table_fn}
-use Rattle.mtune_core.specs.Chosen.{uses_key}
 use Rattle.mtune_core.specs.OutputLaws.{OutputIsSpelt, TakenIsFaultless, OutputPlaysTheSame}
 use Rattle.mtune_core.proofs.PlaysSame.{values_are, values_count, dump_length}
 use Rattle.mtune_core.proofs.SurveyFacts.{found_keys, found_taken, found_untaken}

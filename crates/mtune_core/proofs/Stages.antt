@@ -1,11 +1,10 @@
 -- From a content that was loaded to what is made of it, or to the cause of a fault.
-use Rattle.std.proofs.Common.{◌≡◌, ◌≤◌, ℕ, List, length, Result, Ok, Err, sym, subst, inl, inr}
+use Rattle.std.proofs.Common.{◌≡◌, ◌≤◌, ℕ, List, length, Result, Ok, Err, sym, subst, inr}
 use Rattle.std.specs.Prelude.{IfOk, IfErr, IsErrAnd}
-use Rattle.retune_model.specs.Faults.{Targets}
 use Rattle.mtune_files.specs.Outside.{Outside, IsHeld, after_load}
 use Rattle.mtune_files.specs.declared.which.Which.{Which}
 use Rattle.mtune_core.specs.declared.outcome.Fault.{Fault}
-use Rattle.mtune_core.specs.Contents.{Content, At, ContentCause}
+use Rattle.mtune_core.specs.Contents.{At, ContentCause}
 
 -- a fault that is handed on
 pub handed_on : {T : Type 0} (r : Result T Fault) (e : Fault) (P : Fault → Type 0) → IsErrAnd r (λ y. y ≡ e) → P e → IfErr r P

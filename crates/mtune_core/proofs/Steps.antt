@@ -1,8 +1,8 @@
 -- The outside from step to step of a call.
-use Rattle.std.proofs.Common.{◌≡◌, ℕ, List, true, false, Some, Result, Ok, Err, sym, ap, subst, ◌∙◌, inl, inr}
+use Rattle.std.proofs.Common.{◌≡◌, ℕ, List, true, false, Some, Result, Ok, Err, ap, subst, ◌∙◌, inr}
 use Rattle.std.specs.Prelude.{IfOk, IfErr, OnOk, OnErr, is_err}
 use Rattle.retune_model.specs.Faults.{Targets}
-use Rattle.mtune_files.specs.Outside.{Outside, after_load, after_store, AfterFailedStore, after_say, AfterFailedSay}
+use Rattle.mtune_files.specs.Outside.{Outside, after_load, after_store}
 use Rattle.mtune_files.specs.declared.which.Which.TheVariants.{Scale, Input}
 use Rattle.mtune_core.specs.declared.retuning.Made.{Made}
 use Rattle.mtune_core.specs.declared.outcome.Fault.{Fault}

@@ -1,7 +1,6 @@
 -- How a call ends: the outside before it and after.
-use Rattle.std.specs.Prelude.{ℕ, ◌≡◌, ◌⊎◌, List, Option, Some, None}
+use Rattle.std.specs.Prelude.{ℕ, ◌≡◌, ◌⊎◌, List, Some, None}
 use Rattle.scl_text.specs.declared.entry.Entry.{Entry}
-use Rattle.retune_model.specs.Table.{AreFewTerms}
 use Rattle.retune_model.specs.Faults.{Targets}
 use Rattle.mtune_files.specs.declared.which.Which.TheVariants.{Scale, Input}
 use Rattle.mtune_files.specs.Outside.{Outside, after_load, after_store, AfterFailedStore, after_say, AfterFailedSay}

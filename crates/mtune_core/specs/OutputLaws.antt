@@ -1,5 +1,5 @@
 -- Laws of the output: each is a sentence about what the program puts for a source.
-use Rattle.std.specs.Prelude.{◌≡◌, ◌<◌, ◌≤◌, ◌^◌, ℕ, List, [], length, map, All, true, false, Option, is_some}
+use Rattle.std.specs.Prelude.{◌≡◌, ◌<◌, ◌≤◌, ◌^◌, ℕ, List, [], length, map, All, false, Option}
 use Rattle.std.specs.List.{AllByRecursion}
 use Rattle.mt_base.specs.Midi.{MidiEvent}
 use Rattle.midi_model.specs.FileText.{MidiFile}

@@ -1,5 +1,6 @@
 -- Events that are put into tracks one after the other, and what the dump route puts.
 use Rattle.std.specs.Prelude.{ℕ, ◌+◌, List, [], ◌∷◌, ◌++◌, Bool, true, false, ◌||◌, ◌&&◌, not, ◌==◌, get_or, set, if◌then◌else◌}
+use Rattle.std.specs.List.{list_any}
 use Rattle.mt_base.specs.declared.event.Msg.{Msg}
 use Rattle.mt_base.specs.Midi.{MidiWhat, MidiEvent, Says, SysexOf}
 use Rattle.midi_model.specs.Sysex.{is_reset}
@@ -32,9 +33,9 @@ abbrev pub said_at : MidiEvent → List Msg → List MidiEvent
 said_at e [] = []
 said_at e (m ∷ ms) = record { tick = e.tick; track = e.track; what = Says m } ∷ said_at e ms
 
+-- whether some place is marked
 abbrev pub any_of : List Bool → Bool
-any_of [] = false
-any_of (b ∷ bs) = b || any_of bs
+any_of = list_any (λ b. b)
 
 -- the places, counted on from one, that are marked
 abbrev pub marked : ℕ → List Bool → List ℕ

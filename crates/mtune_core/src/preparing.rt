@@ -9,9 +9,9 @@ ghost use Rattle.mtune_core.specs.Retuned.{InputCause};
 ghost use Rattle.mtune_core.specs.Table.{table_fn, TableFrom, TextCause};
 
 use crate::loading::{INPUT_LIMIT, TEXT_LIMIT, load};
+use crate::outcome::Fault;
 use crate::reading::read_scale;
 use crate::retuning::{Made, retuned};
-use crate::outcome::Fault;
 use crate::table::table_at_440;
 use crate::words::Command;
 use key_pitch::KeyTable;

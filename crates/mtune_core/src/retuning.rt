@@ -1,24 +1,24 @@
-ghost use Rattle.std.specs.Prelude.{◌≡◌, ◌<◌, ◌≤◌, ◌^◌, false, true, map, length, All, IfOk, IfErr, IfSome, IfNone, count_by};
-ghost use Rattle.midi_model.specs.Merged.{merged, IsPlayable};
-ghost use Rattle.midi_model.specs.Writing.{Written, written, file_bytes};
+ghost use Rattle.std.specs.Prelude.{◌≡◌, ◌<◌, ◌≤◌, true, length, IfOk, IfErr, IfSome, IfNone, count_by};
+ghost use Rattle.midi_model.specs.Merged.{merged};
+ghost use Rattle.midi_model.specs.Writing.{file_bytes};
 ghost use Rattle.smf_read.specs.Files.{view_file};
 ghost use Rattle.std.specs.List.{AllByRecursion};
 ghost use Rattle.midi_model.specs.TuningBytes.{IsTuningValue};
-ghost use Rattle.mtune_core.specs.Output.{output_file, dumped_file, report_of, AreShort};
+ghost use Rattle.mtune_core.specs.Output.{output_file, dumped_file, report_of, AreShort, IsPlayableFile, IsPlayableWith, HasShortTracks};
 ghost use Rattle.mtune_core.specs.Survey.{IsUnplayed, ArePlayed, IsRefusal, survey_of};
 ghost use Rattle.mtune_core.specs.Limits.{input_limit};
 ghost use Rattle.mtune_core.specs.Made.{MadeOf};
 ghost use Rattle.mtune_core.specs.Retuned.{InputCause};
 ghost use Rattle.mtune_core.specs.Table.{table_fn};
-ghost use Rattle.mtune_core.specs.Putting.{written_from, view_setup};
+ghost use Rattle.mtune_core.specs.Putting.{view_setup};
 
-use crate::reading::read_input;
-use crate::translating::{Setup, translate};
 use crate::laws::{output_is_spelt, output_plays_the_same, puts_are_dealt, tracks_are_short};
-use crate::reporting::report;
 use crate::outcome::Fault;
+use crate::reading::read_input;
+use crate::reporting::report;
 use crate::survey::{Survey, look_through};
 use crate::table::{Targets, targets};
+use crate::translating::{Setup, translate};
 use event_stream::{Merge, TrackSet};
 use key_pitch::KeyTable;
 use mt_base::Memory;
@@ -63,8 +63,9 @@ fn accept(smf: &Smf<'_>, targets: &Targets) -> Result<Survey, Fault>
     ensures found { IfOk result (λ f. f ≡ survey_of (merged (view_file smf.now))) }
     ensures taken { IfOk result (λ f. f.taken ≡ true) }
     ensures played { IfOk result (λ f. ArePlayed targets.now f.keys) }
-    ensures playable { IsPlayable (length (view_file smf.now).tracks) (merged (view_file smf.now)) }
-    ensures refused { IfErr result (λ e. IsRefusal targets.now (survey_of (merged (view_file smf.now))) e) }
+    ensures playable { IsPlayableFile (view_file smf.now) }
+    ensures refused { IfErr result
+        (λ e. IsRefusal targets.now (survey_of (merged (view_file smf.now))) e) }
 {
     let found = look_through(&mut Merge::new(smf));
     if !found.taken {
@@ -81,9 +82,10 @@ fn output(alloc: Global, smf: &Smf<'_>, setup: &Setup) -> Result<Vec<u8>, Memory
     requires program { setup.now.program ≤ 127 }
     requires format { (view_file smf.now).format ≤ 1 }
     requires one { (view_file smf.now).format ≡ 0 → length (view_file smf.now).tracks ≡ 1 }
-    requires playable { IsPlayable (length (view_file smf.now).tracks) (written_from (view_setup setup.now) false (merged (view_file smf.now))) }
-    requires short { All (λ (text : Written). length text.bytes < 2 ^ 32) (map written (output_file (view_setup setup.now) (view_file smf.now)).tracks) }
-    ensures { IfOk result (λ v. v.items ≡ file_bytes (output_file (view_setup setup.now) (view_file smf.now))) }
+    requires playable { IsPlayableWith (view_setup setup.now) (view_file smf.now) }
+    requires short { HasShortTracks (output_file (view_setup setup.now) (view_file smf.now)) }
+    ensures { IfOk result
+        (λ v. v.items ≡ file_bytes (output_file (view_setup setup.now) (view_file smf.now))) }
 {
     puts_are_dealt();
     let mut out = TrackSet::new(alloc, smf.tracks())?;
@@ -95,12 +97,14 @@ fn output(alloc: Global, smf: &Smf<'_>, setup: &Setup) -> Result<Vec<u8>, Memory
 fn make(alloc: Global, smf: &Smf<'_>, targets: &Targets, found: &Survey) -> Result<Made, Fault>
     requires values { AllByRecursion IsTuningValue targets.now }
     requires found { found.now ≡ survey_of (merged (view_file smf.now)) }
-    requires playable { IsPlayable (length (view_file smf.now).tracks) (merged (view_file smf.now)) }
+    requires playable { IsPlayableFile (view_file smf.now) }
     requires format { (view_file smf.now).format ≤ 1 }
     requires one { (view_file smf.now).format ≡ 0 → length (view_file smf.now).tracks ≡ 1 }
     requires short { AreShort (view_file smf.now) }
-    ensures output { IfOk result (λ made. made.output.items ≡ file_bytes (dumped_file targets.now (view_file smf.now))) }
-    ensures report { IfOk result (λ made. made.report.items ≡ report_of (merged (view_file smf.now))) }
+    ensures output { IfOk result
+        (λ made. made.output.items ≡ file_bytes (dumped_file targets.now (view_file smf.now))) }
+    ensures report { IfOk result
+        (λ made. made.report.items ≡ report_of (merged (view_file smf.now))) }
     ensures memory { IfErr result (λ e. e ≡ Fault.Memory) }
 {
     dump_is_playable();

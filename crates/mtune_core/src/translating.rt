@@ -1,4 +1,4 @@
-ghost use Rattle.std.specs.Prelude.{◌≡◌, ◌≤◌, ◌+◌, OnOk, length, false};
+ghost use Rattle.std.specs.Prelude.{◌≡◌, ◌≤◌, OnOk, false};
 ghost use Rattle.mt_base.specs.Midi.{view, view_what};
 ghost use Rattle.mtune_core.specs.Putting.{AllMayPut, put_all, said_at, any_of, marked, view_setup, dump_events, select_if, select_events, setup_if, is_first, is_again, has_begun, block_events, written_from};
 
@@ -20,13 +20,10 @@ pub struct Setup {
 }
 
 /// Whether there is a part.
-fn has_part(parts: &[bool]) -> bool
+fn has_part(parts: &[bool; 16]) -> bool
     ensures { result ≡ any_of parts.now }
 {
-    match parts {
-        [] => false,
-        [first, rest @ ..] => *first || has_part(rest),
-    }
+    parts.iter().any(|part| *part)
 }
 
 /// Puts messages at an event's tick into its track.
@@ -35,24 +32,22 @@ fn put_messages(out: &mut TrackSet, at: &Event<'_>, messages: &[Msg]) -> Result<
     requires { AllMayPut out.old (said_at (view at.now) messages.now) }
     ensures { OnOk result (out.new ≡ put_all out.old (said_at (view at.now) messages.now)) }
 {
-    match messages {
-        [] => Ok(()),
-        [first, rest @ ..] => {
-            out.put(&Event {
-                tick: at.tick,
-                track: at.track,
-                what: What::Message(*first),
-            })?;
-            put_messages(out, at, rest)
-        }
+    for message in messages {
+        out.put(&Event {
+            tick: at.tick,
+            track: at.track,
+            what: What::Message(*message),
+        })?;
     }
+    Ok(())
 }
 
 /// Puts the dump at an event's tick into its track, where some part selects it.
 #[tactic(auto, unfolding(crate::specs::Putting::AllMayPut, crate::specs::Putting::put_all))]
 fn put_dump(out: &mut TrackSet, at: &Event<'_>, setup: &Setup) -> Result<(), Memory>
     requires { AllMayPut out.old (dump_events (view_setup setup.now) (view at.now)) }
-    ensures { OnOk result (out.new ≡ put_all out.old (dump_events (view_setup setup.now) (view at.now))) }
+    ensures { OnOk result
+        (out.new ≡ put_all out.old (dump_events (view_setup setup.now) (view at.now))) }
 {
     if has_part(&setup.parts) {
         out.put(&Event {
@@ -67,7 +62,8 @@ fn put_dump(out: &mut TrackSet, at: &Event<'_>, setup: &Setup) -> Result<(), Mem
     Ok(())
 }
 
-/// Puts the selection of the program on a channel, if it is wanted, at an event's tick into its track.
+/// Puts the selection of the program on a channel, if it is wanted, at an event's tick into its
+/// track.
 fn put_select(
     out: &mut TrackSet,
     at: &Event<'_>,
@@ -77,7 +73,8 @@ fn put_select(
 ) -> Result<(), Memory>
     requires program { program ≤ 127 }
     requires may { AllMayPut out.old (select_if wanted program (view at.now) channel) }
-    ensures { OnOk result (out.new ≡ put_all out.old (select_if wanted program (view at.now) channel)) }
+    ensures { OnOk result
+        (out.new ≡ put_all out.old (select_if wanted program (view at.now) channel)) }
 {
     if wanted {
         put_messages(out, at, select(channel, program).as_slice())
@@ -87,40 +84,34 @@ fn put_select(
 }
 
 /// Puts the selections of the program at an event's tick into its track, for each part, by channel.
-/// The first of the parts is that of a channel.
 fn put_selects(
     out: &mut TrackSet,
     at: &Event<'_>,
     program: u8,
-    first: u8,
-    parts: &[bool],
+    parts: &[bool; 16],
 ) -> Result<(), Memory>
     requires program { program ≤ 127 }
-    requires channels { first + length parts.now ≤ 16 }
-    requires may { AllMayPut out.old (select_events program (view at.now) (marked first parts.now)) }
-    ensures { OnOk result (out.new ≡ put_all out.old (select_events program (view at.now) (marked first parts.now))) }
+    requires may { AllMayPut out.old (select_events program (view at.now) (marked 0 parts.now)) }
+    ensures { OnOk result
+        (out.new ≡ put_all out.old (select_events program (view at.now) (marked 0 parts.now))) }
 {
-    match parts {
-        [] => Ok(()),
-        [wanted, rest @ ..] => {
-            let Some(channel) = Channel::new(first) else {
-                unreachable!()
-            };
-            put_select(out, at, program, channel, *wanted)?;
-            put_selects(out, at, program, first + 1, rest)
-        }
+    for number in 0..16u8 {
+        let channel = Channel::new(number).unwrap();
+        put_select(out, at, program, channel, parts[number as usize])?;
     }
+    Ok(())
 }
 
 /// Puts the setup at an event's tick into its track, if it is wanted.
 fn put_setup(out: &mut TrackSet, at: &Event<'_>, setup: &Setup, wanted: bool) -> Result<(), Memory>
     requires program { setup.now.program ≤ 127 }
     requires may { AllMayPut out.old (setup_if wanted (view_setup setup.now) (view at.now)) }
-    ensures { OnOk result (out.new ≡ put_all out.old (setup_if wanted (view_setup setup.now) (view at.now))) }
+    ensures { OnOk result
+        (out.new ≡ put_all out.old (setup_if wanted (view_setup setup.now) (view at.now))) }
 {
     if wanted {
         put_dump(out, at, setup)?;
-        put_selects(out, at, setup.program, 0, &setup.parts)
+        put_selects(out, at, setup.program, &setup.parts)
     } else {
         Ok(())
     }
@@ -160,7 +151,8 @@ fn put_block(
 ) -> Result<(), Memory>
     requires program { setup.now.program ≤ 127 }
     requires may { AllMayPut out.old (block_events (view_setup setup.now) begun (view event.now)) }
-    ensures { OnOk result (out.new ≡ put_all out.old (block_events (view_setup setup.now) begun (view event.now))) }
+    ensures { OnOk result (out.new
+        ≡ put_all out.old (block_events (view_setup setup.now) begun (view event.now))) }
 {
     put_setup(out, event, setup, is_first(begun, &event.what))?;
     out.put(event)?;
@@ -176,8 +168,10 @@ pub fn translate<'a, S: EventStream<'a>>(
     out: &mut TrackSet,
 ) -> Result<(), Memory>
     requires program { setup.now.program ≤ 127 }
-    requires may { AllMayPut out.old (written_from (view_setup setup.now) false (S.all stream.old)) }
-    ensures { OnOk result (out.new ≡ put_all out.old (written_from (view_setup setup.now) false (S.all stream.old))) }
+    requires may { AllMayPut out.old
+        (written_from (view_setup setup.now) false (S.all stream.old)) }
+    ensures { OnOk result (out.new
+        ≡ put_all out.old (written_from (view_setup setup.now) false (S.all stream.old))) }
 {
     stream.rewind();
     let mut begun = false;

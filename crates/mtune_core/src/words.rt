@@ -21,7 +21,8 @@ fn is_value(word: &str) -> bool
 
 /// The words behind this one, where it comes first.
 fn behind<'w, 'a>(word: &str, words: &'w [&'a str]) -> Option<&'w [&'a str]>
-    ensures { option_map (λ ws. texts ws.now) result ≡ behind word.entry.now (texts words.entry.now) }
+    ensures { option_map (λ ws. texts ws.now) result
+        ≡ behind word.entry.now (texts words.entry.now) }
 {
     match words {
         [first, rest @ ..] if *first == word => Some(rest),

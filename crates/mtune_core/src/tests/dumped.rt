@@ -1,4 +1,7 @@
-use super::{E12, ONE_NOTE, SELECT, WORDS, check, check_done, dump_event, file, file_divided, files, joined, one_note_output};
+use super::{
+    E12, ONE_NOTE, SELECT, WORDS, check, check_done, dump_event, file, file_divided, files, joined,
+    one_note_output,
+};
 use crate::{Fault, run};
 use std::test::Fail;
 

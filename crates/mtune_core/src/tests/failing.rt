@@ -31,12 +31,36 @@ fn calls_that_fail(rt: HostRuntime) -> Result<(), Fail> {
     // fault's line. Each fails after so many bytes; a failed store leaves them at the output's name.
     let cases: [(&[(u32, u32)], Fault, &str, &[u8], [u64; 5]); 9] = [
         (&[(1, 0)], load(Which::Scale), scale, old, [1, 0, 0, 0, 0]),
-        (&[(1, 9), (2, 0)], load(Which::Scale), "", old, [1, 0, 0, 0, 1]),
+        (
+            &[(1, 9), (2, 0)],
+            load(Which::Scale),
+            "",
+            old,
+            [1, 0, 0, 0, 1],
+        ),
         (&[(2, 0)], load(Which::Input), input, old, [0, 0, 1, 0, 0]),
-        (&[(2, 0), (3, 5)], load(Which::Input), "mtune", old, [0, 0, 1, 0, 1]),
+        (
+            &[(2, 0), (3, 5)],
+            load(Which::Input),
+            "mtune",
+            old,
+            [0, 0, 1, 0, 1],
+        ),
         (&[(3, 0)], Fault::Store, store, b"", [0, 0, 0, 1, 0]),
-        (&[(3, 10)], Fault::Store, store, &whole[..10], [0, 0, 0, 1, 0]),
-        (&[(3, 462), (4, 0)], Fault::Store, "", whole, [0, 0, 0, 1, 1]),
+        (
+            &[(3, 10)],
+            Fault::Store,
+            store,
+            &whole[..10],
+            [0, 0, 0, 1, 0],
+        ),
+        (
+            &[(3, 462), (4, 0)],
+            Fault::Store,
+            "",
+            whole,
+            [0, 0, 0, 1, 1],
+        ),
         // nothing is said after a report that failed
         (&[(4, 0), (5, 9)], Fault::Say, "", whole, [0, 0, 0, 0, 1]),
         (&[(4, 3)], Fault::Say, "rou", whole, [0, 0, 0, 0, 1]),

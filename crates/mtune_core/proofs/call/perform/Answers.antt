@@ -45,8 +45,7 @@ returns-then-is_err-2-clause-stopped g c =
     (sym c.in-Some.ensures) c.in_ok-made.ensures.made in
     let stored = is_stored (g.F.Files.outside c.args.files.now) (g.F.Files.outside c.prepare.new.files) (g.F.Files.outside c.store.new.self) made.command.out made.output c.deref.result.now
     c.in_ok-made.ensures.loaded (of_ok c.store.result c.if-is_err.ensures.value c.store.ensures.stored) c.deref.ensures.value in
-    let failed : AfterFailedSay c.deref-2.result.now (g.F.Files.outside c.store.new.self) (g.F.Files.outside c.say.new.self) = of_err c.say.result c.if-is_err-2.ensures.value c.say.ensures.failed in
-    (
+    let failed : AfterFailedSay c.deref-2.result.now (g.F.Files.outside c.store.new.self) (g.F.Files.outside c.say.new.self) = of_err c.say.result c.if-is_err-2.ensures.value c.say.ensures.failed in (
       made,
       subst (λ o. AfterFailedSay made.report o (g.F.Files.outside c.say.new.self)) stored
           (subst (λ t. AfterFailedSay t (g.F.Files.outside c.store.new.self) (g.F.Files.outside c.say.new.self)) c.deref-2.ensures.value failed),

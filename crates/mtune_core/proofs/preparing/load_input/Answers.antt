@@ -1,4 +1,3 @@
-use Rattle.std.proofs.Common.{List}
 use Rattle.mtune_files.specs.declared.which.Which.TheVariants.{Input}
 use Rattle.mtune_core.specs.Limits.{input_limit}
 use Rattle.mtune_core.specs.Made.{MadeOf}

@@ -1,4 +1,4 @@
-use Rattle.std.proofs.Common.{◌≡◌, ℕ, List, Result, Ok, Err}
+use Rattle.std.proofs.Common.{ℕ, List, Result, Ok, Err}
 use Rattle.std.specs.Prelude.{IfOk, IfErr, OnOk}
 use Rattle.scala_lines.specs.Lines.{lines_of}
 use Rattle.scl_text.specs.declared.entry.Entry.{Entry}

@@ -1,5 +1,0 @@
-use Rattle.std.proofs.Common.{length}
-use Rattle.mtune_core.proofs.translating.+has_part.Given as goal
-
-abbrev pub decreases-has_part : goal.decreases-has_part
-decreases-has_part l = length l.parts.now
