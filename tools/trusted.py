@@ -138,18 +138,48 @@ def reached(name):
     return {it: len([at for at in lines if it.lines[at].strip()]) for it, lines in seen.items()}
 
 
+def levels():
+    """The crates of crates.txt, each with how many stand below it in the longest chain."""
+    below = {}
+    for line in (TOP / "crates.txt").read_text().splitlines():
+        crate, _, deps = line.partition("#")[0].partition(":")
+        if crate.strip():
+            below[crate.split()[0]] = deps.split()
+    level = {}
+
+    def level_of(crate):
+        if crate not in level:
+            level[crate] = 1 + max([level_of(it) for it in below[crate] if it in below], default=0)
+        return level[crate]
+
+    return {crate: level_of(crate) for crate in below}
+
+
 def table(found):
-    """The list as it stands in README.md: by crates, lowest first as far as names tell."""
-    order = [line.split(":")[0] for line in (TOP / "crates.txt").read_text().splitlines()]
-    rows = {}
+    """The list as it stands in README.md: by crates, lowest first."""
+    rows, level = {}, levels()
     for file, lines in found.items():
         rows.setdefault(file.crate, []).append((str(file.path.relative_to(TOP / "crates" / file.crate)), lines))
-    said = ["| crate | lines | files |", "|---|---|---|"]
-    for crate in sorted(rows, key=order.index):
+    head = f"What the contract of `{NAME}` reaches: {sum(found.values())} lines in {len(found)} files, without empty lines."
+    said = [head, "", "| crate | lines | files |", "|---|---|---|"]
+    for crate in sorted(rows, key=lambda it: (level[it], it)):
         files = ", ".join(f"`{name}` {lines}" for name, lines in sorted(rows[crate]))
         said.append(f"| `{crate}` | {sum(it for _, it in rows[crate])} | {files} |")
-    total = sum(found.values())
-    return "\n".join([f"{total} lines in {len(found)} files, without empty lines:", "", *said])
+    return "\n".join(said)
+
+
+def unnamed(found):
+    """Where docs/definitions.md doesn't name one of the files under its crate, or names one that isn't there."""
+    sections = re.split(r"^## ", (TOP / "docs/definitions.md").read_text(), flags=re.M)[1:]
+    crates = [re.findall(r"`(\w+)`", it.split("\n")[0]) for it in sections]
+    named = [(of, re.findall(r"\b(?:(\w+)/specs/)?(\w+)\.antt", it)) for of, it in zip(crates, sections)]
+    for file in sorted((it for it in found if it.is_spec), key=lambda it: it.path):
+        if not any(name == file.path.stem and file.crate in ([crate] if crate else of) for of, names in named for crate, name in names):
+            yield f"docs/definitions.md doesn't name {file.path.relative_to(TOP)} under its crate"
+    for of, names in named:
+        for crate, name in names:
+            if of and not any((TOP / "crates" / it / "specs" / f"{name}.antt").is_file() for it in ([crate] if crate else of)):
+                yield f"docs/definitions.md names {name}.antt, which isn't in the specs/ of {crate or ' or '.join(of)}"
 
 
 def main(words):
@@ -169,12 +199,7 @@ def main(words):
         readme.write_text(text[:start] + block + text[stop:])
         return 0
     problems = [] if text[start:stop] == block else ["the list in README.md is another: run tools/trusted.py --write"]
-    sections = re.split(r"^## ", (TOP / "docs/definitions.md").read_text(), flags=re.M)
-    for file in found:
-        if file.is_spec:
-            places = [it for it in sections if f"`{file.crate}`" in it.split("\n")[0]]
-            if not any(re.search(rf"\b{file.path.name}\b", it) for it in places):
-                problems.append(f"docs/definitions.md doesn't name {file.path.relative_to(TOP)} under its crate")
+    problems += unnamed(found)
     for it in problems:
         print(f"trusted: {it}")
     return 1 if problems else 0

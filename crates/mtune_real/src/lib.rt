@@ -1,13 +1,13 @@
 //! The program over the system: its files, its standard output, its words and its exit status.
 #![tactic(auto)]
 
-mod answer;
+mod process;
 mod reading;
 mod real;
 mod storing;
 mod writing;
 
-pub use answer::answer;
+pub use process::answer;
 pub use real::RealFiles;
 
 #[cfg(test)]
