@@ -45,12 +45,21 @@ ends() {
     shift
     printf '%s\n' "$@" | cmp -s - "$room/said" || fail "it said: $(cat "$room/said")"
 }
-is_done() { ends 0 'route dump' 'notes 19' 'channels 3'; cmp -s "$room/out.mid" "$room/wanted" || fail "another output"; }
+is_done() {
+    [ "$status" -eq 0 ] || fail "status $status, and 0 is wanted"
+    cmp -s "$room/said" "$room/report" || fail "it said: $(cat "$room/said")"
+    cmp -s "$room/out.mid" "$room/wanted" || fail "another output"
+    rm -f "$room/out.mid"
+}
 says_nothing_more() { [ ! -s "$room/explained" ] || fail "it wrote on standard error: $(cat "$room/explained")"; }
 explains() { grep -qF -e "$1" "$room/explained" || fail "it doesn't explain: $1"; }
 asks_nothing() { [ ! -s "$room/asked" ] || fail "it built: $(cat "$room/asked")"; : >"$room/asked"; }
 
-"$program" --scale meantone.scl --a440 --route dump --out "$room/wanted" piece.mid >/dev/null
+# What the program itself does, without the launcher.
+if ! "$program" --scale meantone.scl --a440 --route dump --out "$room/wanted" piece.mid >"$room/report"; then
+    echo 'launcher_test: the program refuses the example'
+    exit 1
+fi
 
 begin the program in dist
 retune piece.mid
