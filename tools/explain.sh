@@ -18,6 +18,7 @@ unread() {
 # Why a name can't be written.
 unwritten() {
     if [ -d "$1" ]; then echo "$1 is a folder."
+    elif [ -L "$1" ] && [ ! -e "$1" ]; then echo "$1 is a link that leads to no file."
     elif [ ! -d "$(dirname "$1")" ]; then echo "There is no folder $(dirname "$1")."
     elif [ -e "$1" ] && [ ! -w "$1" ]; then echo "$1 may not be written."
     else echo "The file is $1."; fi
