@@ -24,7 +24,7 @@ tell() {
         NR == FNR { lines[$2] = $3; total += $3; next } { done += lines[$1]; count++; last = $1 }
         END {
             left = done ? took * (total - done) / done / 60 : 0
-            printf "mtune: %d of %d done (%s)%s\n", count, all, last, count < all ? sprintf(", about %d minutes left", left + 1) : ""
+            printf "mtune: %d of %d done (%s)%s\n", count, all, last, count < all ? sprintf(", about %d min left", left + 1) : ""
         }' "$room/crates" "$room/done" >&2
 }
 
