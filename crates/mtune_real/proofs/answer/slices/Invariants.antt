@@ -1,6 +1,0 @@
-use Rattle.std.proofs.Common.{◌≡◌, map, take, string_bytes}
-use Rattle.mtune_core.specs.Command.{texts}
-use Rattle.mtune_real.proofs.answer.slices.Given as goal
-
-abbrev pub invariant-loop-word : goal.invariant-loop-word
-invariant-loop-word l = texts l.slices.items ≡ map string_bytes (take l.word-index l.words)
