@@ -10,11 +10,11 @@ use Rattle.midi_model.specs.declared.fault.SmfKind.{SmfKind}
 use Rattle.midi_model.specs.FileText.{MidiFile}
 use Rattle.midi_model.specs.Faults.{FirstFault}
 use Rattle.midi_model.specs.Spelling.{Spells}
-use Rattle.retune_model.specs.Scale.{a440_mapping, term_count}
+use Rattle.kbm_text.specs.Map.{a440}
+use Rattle.retune_model.specs.Scale.{term_count}
 use Rattle.retune_model.specs.Table.{IsTable}
 use Rattle.retune_model.specs.Dump.{tuning_at}
 use Rattle.retune_model.specs.Faults.{Targets}
-use Rattle.key_pitch.specs.Views.{steps_of}
 use Rattle.mtune_files.specs.Counts.{next, one_load, one_store, one_say, loads_of}
 use Rattle.mtune_files.specs.Names.{Held, content_at}
 use Rattle.mtune_files.specs.Outside.{Outside, IsContent, HasContent, after_load}
@@ -104,11 +104,11 @@ not_yet laws o words a table kind is_table cause =
     ]
 
 too_many : OneAnswer → (o : Outside) (words : List (List ℕ)) (a : IsAccepted o words) (key : ℕ)
-    → ((entries : List Entry) × ScaleText (lines_of a.text) entries × IsTuneFault (steps_of entries) (TooManyPeriods key)) → ⊥
+    → ((entries : List Entry) × ScaleText (lines_of a.text) entries × IsTuneFault entries (TooManyPeriods key)) → ⊥
 too_many laws o words a key x =
     let same : x.0 ≡ a.entries = laws.one_scale (lines_of a.text) x.0 a.entries x.1 a.is_scale.read in
-    let many : 1700 < term_count (steps_of a.entries) a440_mapping key = subst (λ es. 1700 < term_count (steps_of es) a440_mapping key) same x.2.1 in
-    let few : term_count (steps_of a.entries) a440_mapping key ≤ 1700 = a.is_scale.few key 0 x.2.0 in
+    let many : 1700 < term_count a.entries a440 key = subst (λ es. 1700 < term_count es a440 key) same x.2.1 in
+    let few : term_count a.entries a440 key ≤ 1700 = a.is_scale.few key 0 x.2.0 in
     absurd (omega (arith, many, few))
 
 -- ---- each cause

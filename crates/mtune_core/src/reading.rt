@@ -2,7 +2,6 @@ ghost use Rattle.std.specs.Prelude.{◌≤◌, length, IfOk, IfErr};
 ghost use Rattle.scala_lines.specs.Lines.{lines_of};
 ghost use Rattle.scl_text.specs.Spelling.{ScaleText};
 ghost use Rattle.midi_model.specs.Spelling.{Spells};
-ghost use Rattle.smf_read.specs.Files.{view_file};
 ghost use Rattle.retune_model.specs.Faults.{Targets};
 ghost use Rattle.mtune_core.specs.Limits.{text_limit, input_limit};
 ghost use Rattle.mtune_core.specs.Retuned.{InputCause};
@@ -16,7 +15,7 @@ use std::alloc::Global;
 /// The scale of a text.
 pub fn read_scale(alloc: Global, text: &[u8]) -> Result<Scale, Fault>
     requires { length text.now ≤ text_limit }
-    ensures found { IfOk result (λ scale. ScaleText (lines_of text.now) scale.entries.items) }
+    ensures found { IfOk result (ScaleText (lines_of text.now)) }
     ensures cause { IfErr result (λ e. TextCause text.now e) }
 {
     Ok(read_scl(alloc, text)?)
@@ -25,7 +24,7 @@ pub fn read_scale(alloc: Global, text: &[u8]) -> Result<Scale, Fault>
 /// The file of an input.
 pub fn read_input(alloc: Global, bytes: &[u8]) -> Result<Smf<'_>, Fault>
     requires { length bytes.now ≤ input_limit }
-    ensures found { IfOk result (λ smf. Spells bytes.entry.now (view_file smf)) }
+    ensures found { IfOk result (λ smf. Spells bytes.entry.now smf) }
     ensures cause { IfErr result (λ e. (table : Targets) → InputCause table bytes.entry.now e) }
 {
     Ok(read_smf(alloc, bytes)?)

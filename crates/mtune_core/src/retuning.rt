@@ -1,7 +1,6 @@
 ghost use Rattle.std.specs.Prelude.{◌≡◌, ◌<◌, ◌≤◌, true, length, IfOk, IfErr, IfSome, IfNone, count_by};
 ghost use Rattle.midi_model.specs.Merged.{merged};
 ghost use Rattle.midi_model.specs.Writing.{file_bytes};
-ghost use Rattle.smf_read.specs.Files.{view_file};
 ghost use Rattle.std.specs.List.{AllByRecursion};
 ghost use Rattle.midi_model.specs.TuningBytes.{IsTuningValue};
 ghost use Rattle.mtune_core.specs.Output.{output_file, dumped_file, report_of, AreShort, IsPlayableFile, IsPlayableWith, HasShortTracks};
@@ -60,12 +59,12 @@ fn count(parts: &[bool; 16]) -> u32
 
 /// The survey of a source, where it is taken and the device can play it.
 fn accept(smf: &Smf<'_>, targets: &Targets) -> Result<Survey, Fault>
-    ensures found { IfOk result (λ f. f ≡ survey_of (merged (view_file smf.now))) }
+    ensures found { IfOk result (λ f. f ≡ survey_of (merged smf.now)) }
     ensures taken { IfOk result (λ f. f.taken ≡ true) }
     ensures played { IfOk result (λ f. ArePlayed targets.now f.keys) }
-    ensures playable { IsPlayableFile (view_file smf.now) }
+    ensures playable { IsPlayableFile smf.now }
     ensures refused { IfErr result
-        (λ e. IsRefusal targets.now (survey_of (merged (view_file smf.now))) e) }
+        (λ e. IsRefusal targets.now (survey_of (merged smf.now)) e) }
 {
     let found = look_through(&mut Merge::new(smf));
     if !found.taken {
@@ -80,12 +79,12 @@ fn accept(smf: &Smf<'_>, targets: &Targets) -> Result<Survey, Fault>
 /// The bytes of the output of a source with a setup.
 fn output(alloc: Global, smf: &Smf<'_>, setup: &Setup) -> Result<Vec<u8>, Memory>
     requires program { setup.now.program ≤ 127 }
-    requires format { (view_file smf.now).format ≤ 1 }
-    requires one { (view_file smf.now).format ≡ 0 → length (view_file smf.now).tracks ≡ 1 }
-    requires playable { IsPlayableWith (view_setup setup.now) (view_file smf.now) }
-    requires short { HasShortTracks (output_file (view_setup setup.now) (view_file smf.now)) }
+    requires format { smf.now.format ≤ 1 }
+    requires one { smf.now.format ≡ 0 → length smf.now.tracks ≡ 1 }
+    requires playable { IsPlayableWith (view_setup setup.now) smf.now }
+    requires short { HasShortTracks (output_file (view_setup setup.now) smf.now) }
     ensures { IfOk result
-        (λ v. v.items ≡ file_bytes (output_file (view_setup setup.now) (view_file smf.now))) }
+        (λ v. v.items ≡ file_bytes (output_file (view_setup setup.now) smf.now)) }
 {
     puts_are_dealt();
     let mut out = TrackSet::new(alloc, smf.tracks())?;
@@ -96,15 +95,15 @@ fn output(alloc: Global, smf: &Smf<'_>, setup: &Setup) -> Result<Vec<u8>, Memory
 /// The output and the report of a source that was accepted.
 fn make(alloc: Global, smf: &Smf<'_>, targets: &Targets, found: &Survey) -> Result<Made, Fault>
     requires values { AllByRecursion IsTuningValue targets.now }
-    requires found { found.now ≡ survey_of (merged (view_file smf.now)) }
-    requires playable { IsPlayableFile (view_file smf.now) }
-    requires format { (view_file smf.now).format ≤ 1 }
-    requires one { (view_file smf.now).format ≡ 0 → length (view_file smf.now).tracks ≡ 1 }
-    requires short { AreShort (view_file smf.now) }
+    requires found { found.now ≡ survey_of (merged smf.now) }
+    requires playable { IsPlayableFile smf.now }
+    requires format { smf.now.format ≤ 1 }
+    requires one { smf.now.format ≡ 0 → length smf.now.tracks ≡ 1 }
+    requires short { AreShort smf.now }
     ensures output { IfOk result
-        (λ made. made.output.items ≡ file_bytes (dumped_file targets.now (view_file smf.now))) }
+        (λ made. made.output.items ≡ file_bytes (dumped_file targets.now smf.now)) }
     ensures report { IfOk result
-        (λ made. made.report.items ≡ report_of (merged (view_file smf.now))) }
+        (λ made. made.report.items ≡ report_of (merged smf.now)) }
     ensures memory { IfErr result (λ e. e ≡ Fault.Memory) }
 {
     dump_is_playable();

@@ -3,7 +3,6 @@ ghost use Rattle.std.specs.List.{AllByRecursion};
 ghost use Rattle.midi_model.specs.TuningBytes.{IsTuningValue};
 ghost use Rattle.retune_model.specs.Table.{AreFewTerms};
 ghost use Rattle.retune_model.specs.Dump.{tuning_if};
-ghost use Rattle.key_pitch.specs.Views.{steps_of};
 ghost use Rattle.key_pitch.specs.Aims.{table_of};
 ghost use Rattle.mtune_core.specs.Table.{IsOneTable, IsTuneFault, scaling_of, table_fn};
 
@@ -20,9 +19,9 @@ pub type Targets = [Option<u32>; 128];
 /// The table of a scale whose first note is key 69, at 440 hertz. It takes no memory.
 pub fn table_at_440(alloc: Global, scale: &Scale) -> Result<KeyTable, Fault>
     ensures table { IfOk result
-        (λ t. IsOneTable (scaling_of scale.now.entries.items) (table_fn t)) }
-    ensures few { OnOk result (AreFewTerms (scaling_of scale.now.entries.items)) }
-    ensures cause { IfErr result (λ e. IsTuneFault (steps_of scale.now.entries.items) e) }
+        (λ t. IsOneTable (scaling_of scale.now) (table_fn t)) }
+    ensures few { OnOk result (AreFewTerms (scaling_of scale.now)) }
+    ensures cause { IfErr result (λ e. IsTuneFault scale.now e) }
 {
     let table = KeyTable::new(scale, &Mapping::a440(alloc))?;
     Ok(table)

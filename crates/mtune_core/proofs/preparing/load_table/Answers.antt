@@ -4,7 +4,6 @@ use Rattle.scala_lines.specs.Lines.{lines_of}
 use Rattle.scl_text.specs.declared.entry.Entry.{Entry}
 use Rattle.scl_text.specs.Spelling.{ScaleText}
 use Rattle.retune_model.specs.Table.{AreFewTerms}
-use Rattle.key_pitch.specs.Views.{steps_of}
 use Rattle.key_pitch.specs.declared.table.KeyTable.{KeyTable}
 use Rattle.mtune_files.specs.declared.which.Which.TheVariants.{Scale}
 use Rattle.mtune_core.specs.declared.outcome.Fault.{Fault}
@@ -23,7 +22,7 @@ its_table : (r : Result KeyTable Fault) (text : List ℕ) (entries : List Entry)
 its_table (Ok t) text entries read few is = (entries, record { read = read; few = few }, is)
 its_table (Err e) text entries read few is = tt
 
-its_fault : (r : Result KeyTable Fault) (text : List ℕ) (entries : List Entry) → ScaleText (lines_of text) entries → IfErr r (λ e. IsTuneFault (steps_of entries) e)
+its_fault : (r : Result KeyTable Fault) (text : List ℕ) (entries : List Entry) → ScaleText (lines_of text) entries → IfErr r (λ e. IsTuneFault entries e)
     → IfErr r (λ e. TextCause text e)
 its_fault (Ok t) text entries read h = tt
 its_fault (Err (TooManyPeriods key)) text entries read h = (entries, read, h)
@@ -46,9 +45,9 @@ returns-in_err-scale-clause-cause g c = handed_on c.from_residual-in_err-scale.r
 pub returns-clause-table : goal.returns-clause-table
 returns-clause-table g c = made_at c.table_at_440.result (g.F.Files.outside c.args.files.now) c.args.name.now c.in_ok-text.text.items c.deref.result.now text_limit HasTable
     c.in_ok-text.ensures.content c.in_ok-text.ensures.short c.deref.ensures.value
-    (its_table c.table_at_440.result c.deref.result.now c.in_ok-scale.scale.entries.items c.in_ok-scale.ensures.found c.table_at_440.ensures.few c.table_at_440.ensures.table)
+    (its_table c.table_at_440.result c.deref.result.now c.in_ok-scale.scale c.in_ok-scale.ensures.found c.table_at_440.ensures.few c.table_at_440.ensures.table)
 
 pub returns-clause-cause : goal.returns-clause-cause
 returns-clause-cause g c = faults_at c.table_at_440.result (g.F.Files.outside c.args.files.now) (g.F.Files.outside c.load.new.files) Scale c.args.name.now c.in_ok-text.text.items c.deref.result.now text_limit TextCause
     c.in_ok-text.ensures.content c.in_ok-text.ensures.short c.deref.ensures.value c.in_ok-text.ensures.loaded
-    (its_fault c.table_at_440.result c.deref.result.now c.in_ok-scale.scale.entries.items c.in_ok-scale.ensures.found c.table_at_440.ensures.cause)
+    (its_fault c.table_at_440.result c.deref.result.now c.in_ok-scale.scale c.in_ok-scale.ensures.found c.table_at_440.ensures.cause)

@@ -8,7 +8,6 @@ use Rattle.mtune_core.specs.Output.{with_events}
 use Rattle.mtune_core.specs.Chosen.{dump_options}
 use Rattle.mtune_core.specs.Lines.{report_text}
 use Rattle.mtune_core.proofs.SurveyFacts.{found_notes, found_part_count}
-use Rattle.smf_read.specs.Files.{view_file}
 use Rattle.midi_model.specs.Merged.{merged}
 use Rattle.mtune_core.specs.declared.translating.Setup.{Setup}
 use Rattle.mtune_core.specs.declared.survey.Survey.{Survey}
@@ -19,13 +18,13 @@ use Rattle.mtune_core.proofs.retuning.make.Goals as goal
 
 pub output-requires-clause-playable : goal.output-requires-clause-playable
 output-requires-clause-playable c =
-    let file = view_file c.args.smf.now in
+    let file = c.args.smf.now in
     let setup : Setup = record { parts = c.args.found.now.parts; dump = c.dump.result; program = 0 } in
     put_is_playable c.dump_is_playable.ensures.playable (length file.tracks) setup (merged file) c.args.targets.now c.requires.playable (ap (λ (f : Survey). f.parts) c.requires.found) refl c.dump.ensures.bytes c.dump.ensures.length
 
 pub output-requires-clause-short : goal.output-requires-clause-short
 output-requires-clause-short c =
-    let file = view_file c.args.smf.now in
+    let file = c.args.smf.now in
     let few : length c.args.found.now.parts ≤ 16 = search rules in
     let setup : Setup = record { parts = c.args.found.now.parts; dump = c.dump.result; program = 0 } in
     let bytes = c.requires.short in
@@ -33,14 +32,14 @@ output-requires-clause-short c =
 
 pub returns-clause-output : goal.returns-clause-output
 returns-clause-output c =
-    let file = view_file c.args.smf.now in
+    let file = c.args.smf.now in
     let setup : Setup = record { parts = c.args.found.now.parts; dump = c.dump.result; program = 0 } in
     c.in_ok-output.ensures ∙ ap (λ (es : List MidiEvent). file_bytes (with_events file es))
     (written_is_dumped setup (merged file) c.args.targets.now c.requires.playable.valid (ap (λ (f : Survey). f.parts) c.requires.found) refl c.dump.ensures.bytes)
 
 pub returns-clause-report : goal.returns-clause-report
 returns-clause-report c =
-    let es = merged (view_file c.args.smf.now) in
+    let es = merged c.args.smf.now in
     let notes = ap (λ (f : Survey). f.notes) c.requires.found ∙ found_notes es in
     let parts = c.count.ensures ∙ ap (λ (f : Survey). count_by (λ b. b) f.parts) c.requires.found ∙ found_part_count es c.requires.playable.valid in
     c.in_ok-report.ensures ∙ ap (λ (n : ℕ). report_text n c.count.result) notes ∙ ap (λ (k : ℕ). report_text (count_by (λ e. begins_note (is_part dump_options) e.what) es) k) parts

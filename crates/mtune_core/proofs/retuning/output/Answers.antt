@@ -5,7 +5,6 @@ use Rattle.std.proofs.lemmas.List.{length-map}
 use Rattle.mt_base.specs.Midi.{MidiEvent}
 use Rattle.midi_model.specs.Merged.{merged, IsPlayable}
 use Rattle.midi_model.specs.Writing.{Written, written, file_bytes}
-use Rattle.smf_read.specs.Files.{view_file}
 use Rattle.event_stream.specs.Distributed.{distributed}
 use Rattle.retune_model.specs.Routes.{Setup}
 use Rattle.mtune_core.specs.OutputLaws.{PutIsDealt}
@@ -15,7 +14,7 @@ use Rattle.mtune_core.proofs.retuning.output.Goals as goal
 
 pub translate-requires : goal.translate-requires
 translate-requires c = λ k.
-    let file = view_file c.args.smf.now in
+    let file = c.args.smf.now in
     let s = view_setup c.args.setup.now in
     let n = length file.tracks in
     let out : c.in_ok-out.out ≡ map written (distributed n []) = c.in_ok-out.ensures.stands ∙ ap (λ (k : ℕ). map written (distributed k [])) c.tracks.ensures.value in (
@@ -39,7 +38,7 @@ texts dealt k n s all es new out items begun count same put taken playable =
 
 pub finish-requires : goal.finish-requires
 finish-requires c =
-    let file = view_file c.args.smf.now in
+    let file = c.args.smf.now in
     let s = view_setup c.args.setup.now in
     let n = length file.tracks in
     let es = written_from s false (merged file) in
@@ -59,7 +58,7 @@ finish-requires c =
 
 pub returns : goal.returns
 returns c =
-    let file = view_file c.args.smf.now in
+    let file = c.args.smf.now in
     let s = view_setup c.args.setup.now in
     let n = length file.tracks in
     let ts = distributed n (written_from s false (merged file)) in
