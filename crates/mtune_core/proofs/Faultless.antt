@@ -1,5 +1,6 @@
 -- A source that is taken, and whose keys have targets, has no fault on the dump route.
 use Rattle.std.proofs.Common.{◌≡◌, ℕ, zero, suc, List, [], ◌∷◌, Bool, true, false, cond, not, ◌&&◌, ◌||◌, nat_eq, nat_le, nat_lt, Option, Some, None, is_some, set, get_or, length, replicate, filter, refl, ap, sym, subst, ◌∙◌, eq-eqb, eqb-true}
+use Rattle.std.specs.Prelude.{unwrap_or}
 use Rattle.std.specs.List.{AllByRecursion}
 use Rattle.std.proofs.lemmas.Bool.{not-true, or_parts, or_from, or_left, or_right, both_ways, false_from_ne_true}
 use Rattle.mt_base.specs.declared.event.Msg.{Msg}
@@ -11,8 +12,11 @@ use Rattle.midi_model.specs.Params.{counts}
 use Rattle.midi_model.specs.Zones.{bend_ranges}
 use Rattle.midi_model.specs.Music.{Music, quiet, channel_at, zones_after, advance, step}
 use Rattle.retune_model.specs.Table.{Bounds, tuning_target}
-use Rattle.retune_model.specs.Faults.{Targets, Kind, TuningInSource, Port, is_part, misses_target, is_unmapped, is_out_of_device, is_unison, is_restrike, is_mode, is_data_step, is_entry, is_selected, is_tuning_entry, is_zone_entry, is_poly, first_that, message_tests, is_port, fault_in, IsFaultless}
-use Rattle.retune_model.specs.FaultLaws.{OnlyZoneEntriesAskForZones}
+use Rattle.retune_model.specs.Ports.{NamesNoOther, named_port}
+use Rattle.retune_model.specs.Faults.{Targets, Kind, TuningInSource, is_part, misses_target, is_unmapped, is_out_of_device, is_unison, is_restrike, is_mode, is_data_step, is_entry, is_selected, is_tuning_entry, is_zone_entry, is_poly, first_that}
+use Rattle.retune_model.specs.Pairs.{Pair}
+use Rattle.retune_model.specs.SourceFaults.{message_tests, kind_in, FineInTurn, IsFaultless}
+use Rattle.retune_model.specs.FaultLaws.{OnlyZoneEntriesAskForZones, OnePortIsFaultless}
 use Rattle.mtune_core.specs.Source.{is_plain, is_plain_sysex, is_taken, note_on}
 use Rattle.mtune_core.specs.Chosen.{dump_options, is_on_key, uses_key}
 
@@ -251,19 +255,28 @@ sysex_fine lead bytes h = pick (nat_eq lead 240) h
     pick true k = ap (λ u. cond u (Some TuningInSource) None) (no_tuning_message bytes k)
     pick false k = refl
 
-port_fine : (kind : ℕ) (bytes : List ℕ) → is_taken (MetaOf kind bytes) ≡ true → is_port kind bytes ≡ false
-port_fine kind [] h = refl
-port_fine kind (p ∷ q ∷ bs) h = refl
-port_fine kind (p ∷ []) h = pick (nat_eq kind 33) (nat_eq p 0) h
+first_named : (kind p : ℕ) → cond (nat_eq kind 33) (nat_eq p 0) true ≡ true → unwrap_or (named_port (MetaOf kind (p ∷ []))) 0 ≡ 0
+first_named kind p h = pick (nat_eq kind 33) h
   where
-    pick : (a b : Bool) → cond a b true ≡ true → (a && not b) ≡ false
-    pick true true k = refl
-    pick true false k = absurd cc
-    pick false b k = refl
+    pick : (a : Bool) → cond a (nat_eq p 0) true ≡ true → unwrap_or (cond a (Some p) None) 0 ≡ 0
+    pick true k = eqb-true p 0 k
+    pick false k = refl
 
-what_fine : (table : Targets) (m after : Music) (t : ℕ) (w : MidiWhat) → is_taken w ≡ true → ((k : ℕ) → is_on_key k (note_on w) ≡ true → HasTarget table k t) → Clean after
-    → fault_in dump_options table m after t w ≡ None
-what_fine table m after t (Says msg) h targets clean = none_first (message_tests dump_options table t m after msg) (
+names_no_other : (w : MidiWhat) → is_taken w ≡ true → unwrap_or (named_port w) 0 ≡ 0
+names_no_other (Says msg) h = refl
+names_no_other (SysexOf lead bytes) h = refl
+names_no_other (MetaOf kind []) h = refl
+names_no_other (MetaOf kind (p ∷ [])) h = first_named kind p h
+names_no_other (MetaOf kind (p ∷ q ∷ bs)) h = refl
+
+-- no event that is taken names another port than the first
+pub taken_names_first : (es : List MidiEvent) → AllByRecursion (λ e. is_taken e.what ≡ true) es → AllByRecursion NamesNoOther es
+taken_names_first [] h = tt
+taken_names_first (e ∷ es) h = (names_no_other e.what h.0, taken_names_first es h.1)
+
+what_fine : (table : Targets) (m after : Music) (t : ℕ) (pairs : List Pair) (w : MidiWhat) → is_taken w ≡ true → ((k : ℕ) → is_on_key k (note_on w) ≡ true → HasTarget table k t) → Clean after
+    → kind_in 0 dump_options table t m after false pairs w ≡ None
+what_fine table m after t pairs (Says msg) h targets clean = none_first (message_tests 0 dump_options table t m after false pairs msg) (
   unmapped_fine table t msg targets,
   (
     out_fine table t msg targets,
@@ -280,8 +293,11 @@ what_fine table m after t (Says msg) h targets clean = none_first (message_tests
               (
                 zone_fine m msg h,
                 (
-                  guard (is_part dump_options (channel_of msg)) (nat_lt 16 (counted (channel_at after (channel_of msg)))) (λ e. ap (λ ps. nat_lt 16 (length (filter counts ps))) (clean (channel_of msg) e)),
-                  (poly_fine msg, (restrike_fine table m t msg, tt)),
+                  refl,
+                  (
+                    guard (is_part dump_options (channel_of msg)) (nat_lt 16 (counted (channel_at after (channel_of msg)))) (λ e. ap (λ ps. nat_lt 16 (length (filter counts ps))) (clean (channel_of msg) e)),
+                    (poly_fine msg, (restrike_fine table m t msg, tt)),
+                  ),
                 ),
               ),
             ),
@@ -291,18 +307,18 @@ what_fine table m after t (Says msg) h targets clean = none_first (message_tests
     ),
   ),
 )
-what_fine table m after t (SysexOf lead bytes) h targets clean = sysex_fine lead bytes h
-what_fine table m after t (MetaOf kind bytes) h targets clean = ap (λ b. cond b (Some Port) None) (port_fine kind bytes h)
+what_fine table m after t pairs (SysexOf lead bytes) h targets clean = sysex_fine lead bytes h
+what_fine table m after t pairs (MetaOf kind bytes) h targets clean = refl
 
-faultless_from : OnlyZoneEntriesAskForZones → (table : Targets) (m : Music) (es : List MidiEvent) → AllByRecursion (λ e. is_taken e.what ≡ true) es → ((k t : ℕ) → uses_key k es ≡ true → HasTarget table k t) → Clean m → IsFaultless dump_options table m es
+faultless_from : OnlyZoneEntriesAskForZones → (table : Targets) (m : Music) (es : List MidiEvent) → AllByRecursion (λ e. is_taken e.what ≡ true) es → ((k t : ℕ) → uses_key k es ≡ true → HasTarget table k t) → Clean m → FineInTurn dump_options table m es
 faultless_from zones table m [] taken targets clean = tt
 faultless_from zones table m (e ∷ es) taken targets clean =
     let next : Clean (step m e) = clean_what zones m e.tick e.what taken.0 clean in (
-      what_fine table m (step m e) e.tick e.what taken.0 (λ k h. targets k e.tick (or_left (is_on_key k (note_on e.what)) (uses_key k es) h)) next,
+      λ pairs. what_fine table m (step m e) e.tick pairs e.what taken.0 (λ k h. targets k e.tick (or_left (is_on_key k (note_on e.what)) (uses_key k es) h)) next,
       faultless_from zones table (step m e) es taken.1 (λ k t h. targets k t (or_right (is_on_key k (note_on e.what)) (uses_key k es) h)) next,
     )
 
-pub taken_is_faultless : OnlyZoneEntriesAskForZones → (table : Targets) (es : List MidiEvent) → AllByRecursion (λ e. is_taken e.what ≡ true) es
+pub taken_is_faultless : OnlyZoneEntriesAskForZones → OnePortIsFaultless → (table : Targets) (es : List MidiEvent) → AllByRecursion (λ e. is_taken e.what ≡ true) es
     → ((k t : ℕ) → uses_key k es ≡ true → (b : Bounds) × (table k t ≡ Some b) × (is_some (tuning_target b) ≡ true))
-    → IsFaultless dump_options table quiet es
-taken_is_faultless zones table es taken targets = faultless_from zones table quiet es taken targets clean_quiet
+    → IsFaultless dump_options table es
+taken_is_faultless zones in_turn table es taken targets = in_turn dump_options table es (taken_names_first es taken) (faultless_from zones table quiet es taken targets clean_quiet)

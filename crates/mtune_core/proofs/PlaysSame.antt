@@ -11,7 +11,7 @@ use Rattle.midi_model.specs.TuningBytes.{IsTuningValue, value_bytes, dump_body, 
 use Rattle.mts_msg.specs.Readings.{DumpsAreReadAgain}
 use Rattle.retune_model.specs.Table.{Bounds, up_to, nearest_tuning, tuning_target}
 use Rattle.retune_model.specs.Faults.{Targets}
-use Rattle.retune_model.specs.FaultLaws.{OnlyZoneEntriesAskForZones}
+use Rattle.retune_model.specs.FaultLaws.{OnlyZoneEntriesAskForZones, OnePortIsFaultless}
 use Rattle.retune_model.specs.PlaysTheSame.{HasSameShape}
 use Rattle.retune_model.specs.Dump.{dumped, tuning_if, tuning_at, values_from, IsDumpOf}
 use Rattle.retune_model.specs.Dumpable.{IsDumpable}
@@ -104,9 +104,9 @@ has_target table k t one some = pick (table k 0) refl some
     pick None e h = absurd cc
     pick (Some b) e h = (b, one ∙ e, h)
 
-pub source_is_faultless : OnlyZoneEntriesAskForZones → TakenIsFaultless
-source_is_faultless zones table source one playable taken played =
-    taken_is_faultless zones table (merged source) taken
+pub source_is_faultless : OnlyZoneEntriesAskForZones → OnePortIsFaultless → TakenIsFaultless
+source_is_faultless zones in_turn table source one playable taken played =
+    taken_is_faultless zones in_turn table (merged source) taken
     (λ k t h. has_target table k t (one k t) (played k (used_below k (merged source) playable.valid h) h))
 
 -- ---- the whole file
@@ -124,7 +124,7 @@ plays_the_same laws scaling table source bounds few one playable taken played =
       route = refl;
       valid = playable.valid;
       in_order = laws.in_order n es playable;
-      faultless = source_is_faultless laws.zones table source one playable taken played;
+      faultless = source_is_faultless laws.zones laws.in_turn table source one playable taken played;
       bounds = bounds;
       few_terms = few;
       one_table = one;

@@ -15,8 +15,9 @@ use Rattle.mts_msg.specs.Readings.{DumpsAreReadAgain}
 use Rattle.retune_model.specs.Table.{Scaling}
 use Rattle.retune_model.specs.Options.{Options}
 use Rattle.retune_model.specs.Faults.{Targets}
-use Rattle.retune_model.specs.FaultLaws.{OnlyZoneEntriesAskForZones}
+use Rattle.retune_model.specs.FaultLaws.{OnlyZoneEntriesAskForZones, OnePortIsFaultless}
 use Rattle.retune_model.specs.PlaysTheSame.{HasSameShape, PlaysTheSame}
+use Rattle.retune_model.specs.OutputLaws.{DumpedOnePort}
 use Rattle.retune_model.specs.Dump.{dumped}
 use Rattle.retune_model.specs.Dumpable.{IsDumpable}
 use Rattle.mtune_core.specs.OutputLaws.{TracksAreShort}
@@ -68,6 +69,7 @@ pub record SpeltLaws : Type 0 where
   pub short : TracksAreShort
   pub playable : DumpedIsPlayable
   pub spelt : WrittenIsSpelt
+  pub one_port : DumpedOnePort
 
 -- what it rests on that the output plays the same
 pub record SameLaws : Type 0 where
@@ -77,3 +79,4 @@ pub record SameLaws : Type 0 where
   pub read_again : DumpsAreReadAgain
   pub merged_again : DealtIsMerged
   pub zones : OnlyZoneEntriesAskForZones
+  pub in_turn : OnePortIsFaultless

@@ -88,7 +88,7 @@ made_is_retuned spelt faultless same_played (Ok made) table input source targets
       targets = have;
       faultless = faultless (table_fn table) source (λ key onset. refl) playable all_taken have;
       is_out = subst (λ (b : List ℕ). Spells b (dumped_file values source)) (sym text)
-          (spelt input source values spelled short (division_below input source spelled bytes) playable (dump_length values (values_count (tuning_at (table_fn table)) 0 128)));
+          (spelt input source values spelled short (division_below input source spelled bytes) playable all_taken (dump_length values (values_count (tuning_at (table_fn table)) 0 128)));
       same = same_played scaling (table_fn table) source is_table.is_table few (λ key onset. refl) playable all_taken have;
       exact_file = refl;
       exact_bytes = text;

@@ -1,5 +1,5 @@
 -- What the dump route gives can be written as a file, and its bytes spell it.
-use Rattle.std.proofs.Common.{◌≡◌, ℕ, ◌+◌, ◌*◌, ◌^◌, ◌<◌, ◌≤◌, List, [], ◌∷◌, ◌++◌, length, map, filter, Bool, Option, refl, sym, subst, ◌∙◌, inl, inr, arith, lit≤}
+use Rattle.std.proofs.Common.{◌≡◌, ℕ, ◌+◌, ◌*◌, ◌^◌, ◌<◌, ◌≤◌, List, [], ◌∷◌, ◌++◌, length, map, filter, Bool, true, Option, refl, sym, subst, ◌∙◌, inl, inr, arith, lit≤}
 use Rattle.std.specs.Prelude.{All, ◌&&◌, nat_eq}
 use Rattle.std.specs.List.{AllByRecursion}
 use Rattle.std.specs.Int.{w16, from_be_bytes}
@@ -14,12 +14,15 @@ use Rattle.midi_model.specs.Spelling.{Spells}
 use Rattle.midi_model.specs.TuningBytes.{dump_bytes}
 use Rattle.midi_model.specs.Writing.{Written, written, track_bytes, IsWritable, IsWritableFile}
 use Rattle.event_stream.specs.Distributed.{events_in, distributed}
+use Rattle.retune_model.specs.OutputLaws.{DumpedOnePort}
 use Rattle.retune_model.specs.Dump.{from_up, has_note_on, dump_setup, dumped}
 use Rattle.retune_model.specs.Faults.{is_part}
 use Rattle.mtune_core.specs.Output.{dumped_file}
 use Rattle.mtune_core.specs.Chosen.{dump_options}
 use Rattle.mtune_core.specs.OutputLaws.{IsShortSetup, TracksAreShort, OutputIsSpelt}
+use Rattle.mtune_core.specs.Source.{is_taken}
 use Rattle.mtune_core.proofs.Premises.{SpeltLaws}
+use Rattle.mtune_core.proofs.Faultless.{taken_names_first}
 use Rattle.mtune_core.proofs.Dealt.{length_dealt, get_dealt, each_weaker, each_picked, no_earlier}
 use Rattle.mtune_core.proofs.DumpOutput.{written_is_dump_output}
 use Rattle.mtune_core.proofs.Lengths.{one_if, each_if}
@@ -74,12 +77,12 @@ short_tracks : (ts : List (List Timed)) → All (λ (w : Written). length w.byte
 short_tracks ts h = All-from_get_or (λ (es : List Timed). length (track_bytes es) < 2 ^ 32) ts [] (λ i lt.
     subst (λ (w : Written). length w.bytes < 2 ^ 32) (get_or-map written ts i [] (written []) lt) (h i (written []) (omega (arith, lt, length-map ts written))))
 
-dumped_short : TracksAreShort → (bytes : List ℕ) (source : MidiFile) (dump : List ℕ) → Spells bytes source → length bytes ≤ 4194304 → length dump ≡ 407
+dumped_short : DumpedOnePort → TracksAreShort → (bytes : List ℕ) (source : MidiFile) (dump : List ℕ) → Spells bytes source → length bytes ≤ 4194304 → AllByRecursion (λ e. is_taken e.what ≡ true) (merged source) → length dump ≡ 407
     → All (λ (es : List Timed). length (track_bytes es) < 2 ^ 32) (distributed (length source.tracks) (dumped dump_options dump (merged source)))
-dumped_short short bytes source dump is few len =
+dumped_short one_port short bytes source dump is few taken len =
     let s = dump_setup dump_options dump (merged source) in
     short_tracks (distributed (length source.tracks) (dumped dump_options dump (merged source)))
-    (subst (λ es. All (λ (w : Written). length w.bytes < 2 ^ 32) (map written (distributed (length source.tracks) es))) (written_is_dump_output s (merged source))
+    (subst (λ es. All (λ (w : Written). length w.bytes < 2 ^ 32) (map written (distributed (length source.tracks) es))) (written_is_dump_output s (merged source) ∙ sym (one_port dump_options dump (merged source) (taken_names_first (merged source) taken)))
     (short bytes source s is few (short_dump dump (merged source) len)))
 
 -- ---- the division
@@ -114,8 +117,8 @@ division_below bytes source is h =
 
 -- The output of the dump route can be written.
 pub dumped_is_written : SpeltLaws → (bytes : List ℕ) (source : MidiFile) (targets : List (Option ℕ)) → Spells bytes source → length bytes ≤ 4194304 → source.division < 2 ^ 16
-    → IsPlayable (length source.tracks) (merged source) → length (dump_bytes 0 targets) ≡ 407 → IsWritableFile (dumped_file targets source)
-dumped_is_written laws bytes source targets is few division plays len =
+    → IsPlayable (length source.tracks) (merged source) → AllByRecursion (λ e. is_taken e.what ≡ true) (merged source) → length (dump_bytes 0 targets) ≡ 407 → IsWritableFile (dumped_file targets source)
+dumped_is_written laws bytes source targets is few division plays taken len =
     let n = length source.tracks in
     let dump = dump_bytes 0 targets in
     let es = dumped dump_options dump (merged source) in
@@ -123,7 +126,7 @@ dumped_is_written laws bytes source targets is few division plays len =
     let fields = is.are_fields in
     record {
       tracks = all_writable n es (laws.playable n dump_options dump (merged source) (omega (arith, len)) (lit≤ tt) plays);
-      short = dumped_short laws.short bytes source dump is few len;
+      short = dumped_short laws.one_port laws.short bytes source dump is few taken len;
       one_or_more = omega (arith, count, fields.one_or_more);
       few = omega (arith, count, fields.few);
       format_0_or_1 = fields.format_0_or_1;
@@ -133,5 +136,5 @@ dumped_is_written laws bytes source targets is few division plays len =
 
 -- The bytes of the output of the dump route spell it.
 pub dumped_spells : SpeltLaws → OutputIsSpelt
-dumped_spells laws bytes source targets is few division plays len =
-    laws.spelt (dumped_file targets source) (dumped_is_written laws bytes source targets is few division plays len)
+dumped_spells laws bytes source targets is few division plays taken len =
+    laws.spelt (dumped_file targets source) (dumped_is_written laws bytes source targets is few division plays taken len)

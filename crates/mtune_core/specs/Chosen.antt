@@ -5,7 +5,7 @@ use Rattle.retune_model.specs.Options.{Options, ByDump}
 use Rattle.mtune_core.specs.Source.{note_on}
 
 abbrev pub dump_options : Options
-dump_options = record { route = ByDump; range = 2; keep_drums = true; program = 0 }
+dump_options = record { route = ByDump; range = 2; keep_drums = true; program = 0; tail = 0 }
 
 -- whether a part and a key, if there are any, have this key
 abbrev pub is_on_key : ℕ → Option (ℕ × ℕ) → Bool

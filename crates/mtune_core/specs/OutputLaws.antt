@@ -4,13 +4,13 @@ use Rattle.std.specs.List.{AllByRecursion}
 use Rattle.mt_base.specs.Midi.{MidiEvent}
 use Rattle.midi_model.specs.FileText.{MidiFile}
 use Rattle.midi_model.specs.Merged.{merged, IsPlayable}
-use Rattle.midi_model.specs.Music.{quiet}
 use Rattle.midi_model.specs.Spelling.{Spells}
 use Rattle.midi_model.specs.TuningBytes.{dump_bytes}
 use Rattle.midi_model.specs.Writing.{Written, written, file_bytes}
 use Rattle.event_stream.specs.Distributed.{distributed}
 use Rattle.retune_model.specs.Table.{Scaling, IsTable, AreFewTerms}
-use Rattle.retune_model.specs.Faults.{Targets, IsFaultless}
+use Rattle.retune_model.specs.Faults.{Targets}
+use Rattle.retune_model.specs.SourceFaults.{IsFaultless}
 use Rattle.retune_model.specs.Dump.{tuning_at, values_from}
 use Rattle.retune_model.specs.PlaysTheSame.{PlaysTheSame}
 use Rattle.retune_model.specs.Routes.{Setup}
@@ -39,17 +39,19 @@ abbrev pub TracksAreShort : Type 0
 TracksAreShort = (bytes : List ℕ) (source : MidiFile) (s : Setup) → Spells bytes source → length bytes ≤ input_limit → IsShortSetup s
     → All (λ (w : Written). length w.bytes < 2 ^ 32) (map written (distributed (length source.tracks) (written_from s false (merged source))))
 
--- the bytes of the output of a source of at most 4,194,304 bytes, where the targets of all keys make a dump of 407 bytes, spell the output
+-- The bytes of the output of a source of at most 4,194,304 bytes whose events are taken spell the output, where the targets of all
+-- keys make a dump of 407 bytes.
 abbrev pub OutputIsSpelt : Type 0
 OutputIsSpelt = (bytes : List ℕ) (source : MidiFile) (targets : List (Option ℕ)) → Spells bytes source → length bytes ≤ input_limit → source.division < 2 ^ 16
-    → IsPlayable (length source.tracks) (merged source) → length (dump_bytes 0 targets) ≡ 407 → Spells (file_bytes (dumped_file targets source)) (dumped_file targets source)
+    → IsPlayable (length source.tracks) (merged source) → AreTaken source → length (dump_bytes 0 targets) ≡ 407
+    → Spells (file_bytes (dumped_file targets source)) (dumped_file targets source)
 
 -- In a table that gives a key the same bounds at each tick, a source whose events are taken, and whose keys have targets, has no
 -- fault; and its output plays the same.
 abbrev pub TakenIsFaultless : Type 0
 TakenIsFaultless = (table : Targets) (source : MidiFile) → ((key onset : ℕ) → table key onset ≡ table key 0)
     → IsPlayable (length source.tracks) (merged source) → AreTaken source → HaveTargets table source
-    → IsFaultless dump_options table quiet (merged source)
+    → IsFaultless dump_options table (merged source)
 
 abbrev pub OutputPlaysTheSame : Type 0
 OutputPlaysTheSame = (scaling : Scaling) (table : Targets) (source : MidiFile) → IsTable scaling table → AreFewTerms scaling

@@ -5,11 +5,11 @@ use Rattle.mt_base.specs.Midi.{MidiEvent}
 use Rattle.midi_model.specs.FileText.{MidiFile}
 use Rattle.midi_model.specs.Faults.{FirstFault}
 use Rattle.midi_model.specs.Merged.{merged}
-use Rattle.midi_model.specs.Music.{quiet}
 use Rattle.midi_model.specs.Spelling.{Spells}
 use Rattle.midi_model.specs.Writing.{file_bytes}
 use Rattle.retune_model.specs.Table.{Scaling}
-use Rattle.retune_model.specs.Faults.{Targets, IsFaultless}
+use Rattle.retune_model.specs.Faults.{Targets}
+use Rattle.retune_model.specs.SourceFaults.{IsFaultless}
 use Rattle.retune_model.specs.Dump.{tuning_at, values_from}
 use Rattle.retune_model.specs.PlaysTheSame.{PlaysTheSame}
 use Rattle.mtune_core.specs.declared.outcome.Fault.{Fault}
@@ -48,7 +48,7 @@ pub record IsRetuned (scaling : Scaling) (table : Targets) (input output report 
   pub spelled : Spells input source
   pub taken : AreTaken source
   pub targets : HaveTargets table source
-  pub faultless : IsFaultless dump_options table quiet (merged source)
+  pub faultless : IsFaultless dump_options table (merged source)
   pub is_out : Spells output out
   pub same : PlaysTheSame scaling dump_options table source out
   pub exact_file : out ≡ dumped_file (values_from (tuning_at table) 0 128) source

@@ -6,7 +6,8 @@ use event_stream::{distribution, playable_is_put, put_is_dealt};
 use midi_model::{file_laws, merged_order, size_laws, writing_laws};
 use mts_msg::written_is_read;
 use retune_model::{
-    dump_is_playable, dump_plays_the_same, playable_in_order, zone_entries_set_zones,
+    dump_is_playable, dump_plays_the_same, one_port_alone, playable_in_order, sound_sources,
+    zone_entries_set_zones,
 };
 
 /// The events of a playable list may be put into new tracks one after the other, and the tracks then
@@ -28,12 +29,14 @@ pub fn tracks_are_short()
     size_laws();
 }
 
-/// The bytes of the output of a source of at most 4,194,304 bytes spell the output.
+/// The bytes of the output of a source of at most 4,194,304 bytes whose events are taken spell the
+/// output.
 pub fn output_is_spelt()
     ensures { OutputIsSpelt }
 {
     tracks_are_short();
     dump_is_playable();
+    one_port_alone();
     writing_laws();
 }
 
@@ -48,5 +51,6 @@ pub fn output_plays_the_same()
     playable_in_order();
     written_is_read();
     distribution();
+    sound_sources();
     zone_entries_set_zones();
 }

@@ -22,7 +22,7 @@ use event_stream::{Merge, TrackSet};
 use key_pitch::KeyTable;
 use mt_base::Memory;
 use mts_msg::dump;
-use retune_model::dump_is_playable;
+use retune_model::{dump_is_playable, one_port_alone};
 use smf_read::Smf;
 use smf_write::finish;
 use std::alloc::Global;
@@ -96,6 +96,7 @@ fn output(alloc: Global, smf: &Smf<'_>, setup: &Setup) -> Result<Vec<u8>, Memory
 fn make(alloc: Global, smf: &Smf<'_>, targets: &Targets, found: &Survey) -> Result<Made, Fault>
     requires values { AllByRecursion IsTuningValue targets.now }
     requires found { found.now ≡ survey_of (merged smf.now) }
+    requires taken { found.now.taken ≡ true }
     requires playable { IsPlayableFile smf.now }
     requires format { smf.now.format ≤ 1 }
     requires one { smf.now.format ≡ 0 → length smf.now.tracks ≡ 1 }
@@ -107,6 +108,7 @@ fn make(alloc: Global, smf: &Smf<'_>, targets: &Targets, found: &Survey) -> Resu
     ensures memory { IfErr result (λ e. e ≡ Fault.Memory) }
 {
     dump_is_playable();
+    one_port_alone();
     tracks_are_short();
     let setup = Setup {
         parts: found.parts,

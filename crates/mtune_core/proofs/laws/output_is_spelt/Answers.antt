@@ -6,4 +6,5 @@ returns c = dumped_spells (record {
   short = c.tracks_are_short.ensures;
   playable = c.dump_is_playable.ensures.playable;
   spelt = c.writing_laws.ensures.spells;
+  one_port = c.one_port_alone.ensures.dump;
 })

@@ -1,4 +1,4 @@
-use Rattle.std.proofs.Common.{◌≤◌, ℕ, List, length, refl, ap, ◌∙◌, arith, rules}
+use Rattle.std.proofs.Common.{◌≡◌, ◌≤◌, ℕ, List, true, length, refl, sym, ap, ◌∙◌, arith, rules}
 use Rattle.std.specs.Prelude.{count_by}
 use Rattle.mt_base.specs.Midi.{MidiEvent}
 use Rattle.midi_model.specs.Writing.{file_bytes}
@@ -7,7 +7,10 @@ use Rattle.retune_model.specs.Faults.{is_part}
 use Rattle.mtune_core.specs.Output.{with_events}
 use Rattle.mtune_core.specs.Chosen.{dump_options}
 use Rattle.mtune_core.specs.Lines.{report_text}
-use Rattle.mtune_core.proofs.SurveyFacts.{found_notes, found_part_count}
+use Rattle.std.specs.List.{AllByRecursion}
+use Rattle.mtune_core.specs.Source.{is_taken}
+use Rattle.mtune_core.specs.Survey.{survey_of}
+use Rattle.mtune_core.proofs.SurveyFacts.{found_notes, found_part_count, found_taken}
 use Rattle.midi_model.specs.Merged.{merged}
 use Rattle.mtune_core.specs.declared.translating.Setup.{Setup}
 use Rattle.mtune_core.specs.declared.survey.Survey.{Survey}
@@ -16,11 +19,14 @@ use Rattle.mtune_core.proofs.Lengths.{short_setup}
 use Rattle.mtune_core.proofs.Made.{put_is_playable, written_is_dumped}
 use Rattle.mtune_core.proofs.retuning.make.Goals as goal
 
+all_taken : (found : Survey) (es : List MidiEvent) → found ≡ survey_of es → found.taken ≡ true → AllByRecursion (λ e. is_taken e.what ≡ true) es
+all_taken found es is taken = found_taken es (sym (ap (λ (f : Survey). f.taken) is) ∙ taken)
+
 pub output-requires-clause-playable : goal.output-requires-clause-playable
 output-requires-clause-playable c =
     let file = c.args.smf.now in
     let setup : Setup = record { parts = c.args.found.now.parts; dump = c.dump.result; program = 0 } in
-    put_is_playable c.dump_is_playable.ensures.playable (length file.tracks) setup (merged file) c.args.targets.now c.requires.playable (ap (λ (f : Survey). f.parts) c.requires.found) refl c.dump.ensures.bytes c.dump.ensures.length
+    put_is_playable c.one_port_alone.ensures.dump c.dump_is_playable.ensures.playable (length file.tracks) setup (merged file) c.args.targets.now c.requires.playable (all_taken c.args.found.now (merged file) c.requires.found c.requires.taken) (ap (λ (f : Survey). f.parts) c.requires.found) refl c.dump.ensures.bytes c.dump.ensures.length
 
 pub output-requires-clause-short : goal.output-requires-clause-short
 output-requires-clause-short c =
@@ -35,7 +41,7 @@ returns-clause-output c =
     let file = c.args.smf.now in
     let setup : Setup = record { parts = c.args.found.now.parts; dump = c.dump.result; program = 0 } in
     c.in_ok-output.ensures ∙ ap (λ (es : List MidiEvent). file_bytes (with_events file es))
-    (written_is_dumped setup (merged file) c.args.targets.now c.requires.playable.valid (ap (λ (f : Survey). f.parts) c.requires.found) refl c.dump.ensures.bytes)
+    (written_is_dumped c.one_port_alone.ensures.dump setup (merged file) c.args.targets.now c.requires.playable.valid (all_taken c.args.found.now (merged file) c.requires.found c.requires.taken) (ap (λ (f : Survey). f.parts) c.requires.found) refl c.dump.ensures.bytes)
 
 pub returns-clause-report : goal.returns-clause-report
 returns-clause-report c =
