@@ -73,7 +73,8 @@ impl Receiver {
         ensures states { states_of self.new
             ≡ bend_ranges (Some (master, members)) (zones_in self.new.zones) (states_of self.old) }
         ensures selected { selected_in self.new ≡ selected_in self.old }
-        ensures zones { zones_in self.new.zones ≡ zones_with (Some (master, members)) (zones_in self.old.zones) }
+        ensures zones { zones_in self.new.zones
+            ≡ zones_with (Some (master, members)) (zones_in self.old.zones) }
         ensures begun { self.new.begun ≡ self.old.begun }
         ensures tunings { self.new.tunings ≡ self.old.tunings }
     {
@@ -103,11 +104,14 @@ impl Receiver {
         requires same { message.now ≡ Control channel number value }
         requires valid { IsValidMsg (Control channel number value) }
         requires room { HasRoom self.old (Says (Control channel number value)) }
-        ensures notes { SlotsBecome (turned_by_control (set_up_of self.old) tick channel number value)
+        ensures notes { SlotsBecome
+            (turned_by_control (set_up_of self.old) tick channel number value)
             self.old self.new }
-        ensures states { states_of self.new ≡ channels_after (set_up_of self.old) (Control channel number value) }
+        ensures states { states_of self.new
+            ≡ channels_after (set_up_of self.old) (Control channel number value) }
         ensures selected { selected_in self.new
-            ≡ selected_by (set_up_of self.old) (Plays (Control channel number value)) (selected_in self.old) }
+            ≡ selected_by (set_up_of self.old) (Plays (Control channel number value))
+            (selected_in self.old) }
         ensures zones { zones_in self.new.zones
             ≡ zones_after (set_up_of self.old) (Control channel number value) }
         ensures begun { self.new.begun ≡ self.old.begun }
@@ -126,13 +130,15 @@ impl Receiver {
         requires valid { IsValidMsg message.now }
         requires room { HasRoom self.old (Says message.now) }
         requires few { self.old.begun < 4294967295 }
-        ensures notes { SlotsBecome (acted (set_up_of self.old) (self.old.begun + 1) tick message.now)
+        ensures notes { SlotsBecome
+            (acted (set_up_of self.old) (self.old.begun + 1) tick message.now)
             self.old self.new }
         ensures states { states_of self.new ≡ channels_after (set_up_of self.old) message.now }
         ensures selected { selected_in self.new
             ≡ selected_by (set_up_of self.old) (Plays message.now) (selected_in self.old) }
         ensures zones { zones_in self.new.zones ≡ zones_after (set_up_of self.old) message.now }
-        ensures begun { self.new.begun ≡ (if begins_by message.now then self.old.begun + 1 else self.old.begun) }
+        ensures begun { self.new.begun
+            ≡ (if begins_by message.now then self.old.begun + 1 else self.old.begun) }
         ensures tunings { self.new.tunings ≡ self.old.tunings }
     {
         let channel = message.channel();

@@ -27,7 +27,8 @@ impl ChannelState {
     /// value. It gives nothing where no parameter is selected that has a value.
     fn entered(&self, byte: DataByte, value: u8) -> Option<Param>
         requires { value ≤ 127 }
-        ensures params { given_by result (own_of self.now).params ≡ (entered byte value (own_of self.now)).params }
+        ensures params { given_by result (own_of self.now).params
+            ≡ (entered byte value (own_of self.now)).params }
         ensures fits { IfSome result (λ p. IsEntered (entry_of p)) }
     {
         match self.target() {
@@ -58,7 +59,8 @@ impl ChannelState {
         requires room { counted (entered byte value (own_of self.old)) ≤ 16 }
         ensures own { own_of self.new ≡ entered byte value (own_of self.old) }
         ensures keys { self.new.keys ≡ self.old.keys }
-        ensures tuning { self.new.tuning ≡ program_by (own_of self.old) value (entry_role byte) self.old.tuning }
+        ensures tuning { self.new.tuning
+            ≡ program_by (own_of self.old) value (entry_role byte) self.old.tuning }
     {
         if byte == DataByte::Msb && self.target() == Selected::Tuning {
             self.tuning = Some(value);

@@ -53,7 +53,8 @@ impl Receiver {
     pub(crate) fn strike(&mut self, channel: Channel, key: u8, tick: u32, velocity: u8)
         requires key { key < 128 }
         requires few { self.old.begun < 4294967295 }
-        ensures notes { SlotsBecome (struck (self.old.begun + 1) (begun (set_up_of self.old) tick channel key velocity))
+        ensures notes { SlotsBecome
+            (struck (self.old.begun + 1) (begun (set_up_of self.old) tick channel key velocity))
             self.old self.new }
         ensures states { states_of self.new ≡ states_of self.old }
         ensures selected { selected_in self.new ≡ selected_in self.old }
@@ -89,7 +90,8 @@ impl Receiver {
 
     /// A controller of a channel turns the notes of another, or its own, where it reaches them.
     fn turn_one(&mut self, turn: Turn, channel: Channel, other: Channel, tick: u32)
-        ensures notes { SlotsBecome (only_on other (turn_of turn tick (zones_in self.old.zones) channel))
+        ensures notes { SlotsBecome
+            (only_on other (turn_of turn tick (zones_in self.old.zones) channel))
             self.old self.new }
         ensures rest { SameSetUp self.old self.new }
     {
@@ -100,7 +102,8 @@ impl Receiver {
 
     /// A controller of a channel turns the notes of all channels that it reaches.
     fn turn(&mut self, turn: Turn, channel: Channel, tick: u32)
-        ensures notes { NotesBecome (turn_of turn tick (zones_in self.old.zones) channel) self.old self.new }
+        ensures notes { NotesBecome (turn_of turn tick (zones_in self.old.zones) channel)
+            self.old self.new }
         ensures rest { SameSetUp self.old self.new }
     {
         for number in 0..16u8 {
@@ -110,7 +113,8 @@ impl Receiver {
 
     /// The sostenuto pedal, controller 66, of a channel.
     fn sostenuto(&mut self, channel: Channel, value: u8, tick: u32)
-        ensures notes { NotesBecome (sostenuto_by (set_up_of self.old) channel value) self.old self.new }
+        ensures notes { NotesBecome (sostenuto_by (set_up_of self.old) channel value)
+            self.old self.new }
         ensures rest { SameSetUp self.old self.new }
     {
         let before = self.channels[channel.number() as usize]
@@ -128,7 +132,8 @@ impl Receiver {
 
     /// What a controller does to the notes, before what nothing holds ends.
     pub(crate) fn turn_notes(&mut self, channel: Channel, number: u8, value: u8, tick: u32)
-        ensures notes { SlotsBecome (turned_by_control (set_up_of self.old) tick channel number value)
+        ensures notes { SlotsBecome
+            (turned_by_control (set_up_of self.old) tick channel number value)
             self.old self.new }
         ensures rest { SameSetUp self.old self.new }
     {
@@ -163,7 +168,8 @@ impl Receiver {
 
     /// The notes end that nothing holds.
     pub(crate) fn settle(&mut self)
-        ensures notes { (t : ℕ) → NotesBecome (settled_by (set_up_of self.old) t) self.old self.new }
+        ensures notes { (t : ℕ)
+            → NotesBecome (settled_by (set_up_of self.old) t) self.old self.new }
         ensures rest { SameSetUp self.old self.new }
     {
         for number in 0..16u8 {

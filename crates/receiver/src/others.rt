@@ -1,6 +1,6 @@
 ghost use Rattle.std.specs.Prelude.{◌≡◌, ◌<◌, ◌≤◌, ◌↔◌, ℕ, length, map, slice_index, IsTrue, IfOk, IfErr};
 ghost use Rattle.midi_model.specs.Params.{put, value_of, IsCanonical, default_value};
-ghost use Rattle.receiver.specs.Params.{rank_at, parameter_of, numbered, entries_of};
+ghost use Rattle.receiver.specs.Params.{IsAt, AreLower, IsHigher, parameter_of, numbered, entries_of};
 
 use crate::param::{Param, default_of, rank_of};
 use arrayvec::ArrayVec;
@@ -8,11 +8,11 @@ use arrayvec::ArrayVec;
 /// The place of the parameter of this rank in a list; where there is none, the place at which it
 /// belongs.
 fn place(others: &[Param], rank: u16) -> Result<usize, usize>
-    ensures found { IfOk result (λ at. (at < length others.now) × (slice_index (map rank_at others.now) at ≡ rank)) }
-    ensures before { IfOk result (λ at. (k : ℕ) → k < at → slice_index (map rank_at others.now) k < rank) }
+    ensures found { IfOk result (IsAt rank others.now) }
+    ensures before { IfOk result (AreLower rank others.now) }
     ensures bound { IfErr result (λ at. at ≤ length others.now) }
-    ensures above { IfErr result (λ at. at < length others.now → rank < slice_index (map rank_at others.now) at) }
-    ensures below { IfErr result (λ at. (k : ℕ) → k < at → slice_index (map rank_at others.now) k < rank) }
+    ensures above { IfErr result (IsHigher rank others.now) }
+    ensures below { IfErr result (AreLower rank others.now) }
 {
     for at in 0..others.len() {
         let here = others[at].rank();

@@ -11,7 +11,8 @@ use crate::tunings::Tunings;
 pub(crate) fn by_program(tunings: &Tunings, program: Option<u8>, key: u8) -> i128
     requires program { (v : ℕ) → program ≡ Some v → v ≤ 127 }
     requires key { key < 128 }
-    ensures pitch { (s : Tuning) → ((p k : ℕ) → p < 128 → k < 128 → value_in tunings.now p k ≡ s.values p k)
+    ensures pitch { (s : Tuning)
+        → ((p k : ℕ) → p < 128 → k < 128 → value_in tunings.now p k ≡ s.values p k)
         → result ≡ by_program s program key }
     ensures low { neg_ℤ (pos (2 ^ 64)) ≤ℤ result }
     ensures high { result ≤ℤ pos (2 ^ 64) }

@@ -40,7 +40,8 @@ impl Playing {
     pub fn strike(&mut self, key: u8, struck: Struck)
         requires { key < 128 }
         ensures heard { (c k : ℕ) → k < 128 → heard c self.new k
-            ≡ (if nat_eq k key then Some (struck.number, begins_as c key struck) else heard c self.old k) }
+            ≡ (if nat_eq k key then Some (struck.number, begins_as c key struck)
+            else heard c self.old k) }
         ensures state { SameState self.old self.new }
     {
         self.state.press(key, 0);
@@ -143,7 +144,8 @@ impl Playing {
 
     /// The notes end that only the hold pedal could hold.
     pub fn lift_pedal(&mut self)
-        ensures heard { (c k : ℕ) → k < 128 → heard c self.new k ≡ without_pedal (heard c self.old k) }
+        ensures heard { (c k : ℕ) → k < 128
+            → heard c self.new k ≡ without_pedal (heard c self.old k) }
         ensures state { SameState self.old self.new }
     {
         let loose = self.keys.loose();

@@ -154,7 +154,8 @@ impl Receiver {
     pub fn room(&self, what: &What<'_>) -> bool
         requires valid { IsValidWhat (view_what what.now) }
         ensures own { IsTrue result ↔ HasRoom self.now (view_what what.now) }
-        ensures all { (es : List MidiEvent) (e : MidiEvent) → Stands self.now es → e.what ≡ view_what what.now
+        ensures all { (es : List MidiEvent) (e : MidiEvent)
+            → Stands self.now es → e.what ≡ view_what what.now
             → IsTrue result ↔ AreFew (after (es ++ e ∷ [])).music }
     {
         match *what {

@@ -35,7 +35,8 @@ impl ChannelState {
         requires room { counted (controlled (own_of self.old) number value (role number)) ≤ 16 }
         ensures own { own_of self.new ≡ controlled (own_of self.old) number value (role number) }
         ensures keys { self.new.keys ≡ self.old.keys }
-        ensures tuning { self.new.tuning ≡ program_by (own_of self.old) value (role number) self.old.tuning }
+        ensures tuning { self.new.tuning
+            ≡ program_by (own_of self.old) value (role number) self.old.tuning }
     {
         match purpose_of(number) {
             Purpose::Keep => self.controls.set(number as usize, value),

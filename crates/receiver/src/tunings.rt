@@ -76,7 +76,8 @@ impl Tunings {
     /// A tuning message.
     pub fn take(&mut self, tuning: &Tuning)
         requires { IsInRange (retune_of tuning.now) }
-        ensures { Retunes (retune_of tuning.now).program (retune_of tuning.now).keys self.old self.new }
+        ensures { Retunes (retune_of tuning.now).program (retune_of tuning.now).keys
+            self.old self.new }
     {
         match tuning {
             Tuning::Dump { program, values } => self.fill(*program, values),

@@ -38,7 +38,8 @@ impl<const N: usize> Model for Tab<N> {
     ghost view = { λ t. record { defaults = t.base; items = t.items } };
 
     ghost invariant = { λ t. (N ≤ 128)
-        × ((i : ℕ) → i < N → bit_at t.mask i ≡ differs (slice_index t.base i) (slice_index t.items i)) };
+        × ((i : ℕ) → i < N
+        → bit_at t.mask i ≡ differs (slice_index t.base i) (slice_index t.items i)) };
 }
 
 impl<const N: usize> Tab<N> {
@@ -111,10 +112,13 @@ impl<const N: usize> Tab<N> {
         requires from { from ≤ N }
         ensures place { IfSome result.place (λ i. (from ≤ i) × (i < N)) }
         ensures differs { IfSome result.place (λ i. DifferAt i self.now.items other.now.items) }
-        ensures least { IfSome result.place (λ i. SameBetween from i self.now.items other.now.items) }
+        ensures least { IfSome result.place
+            (λ i. SameBetween from i self.now.items other.now.items) }
         ensures none { IfNone result.place (SameBetween from N self.now.items other.now.items) }
-        ensures looked { IfSome result.place (λ i. Looked self.now.items other.now from (i + 1) result.looked) }
-        ensures looked_all { IfNone result.place (Looked self.now.items other.now from N result.looked) }
+        ensures looked { IfSome result.place
+            (λ i. Looked self.now.items other.now from (i + 1) result.looked) }
+        ensures looked_all { IfNone result.place
+            (Looked self.now.items other.now from N result.looked) }
     {
         let both = self.mask | other.mask;
         let mut looked = 0;
