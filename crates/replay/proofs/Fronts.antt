@@ -4,7 +4,8 @@ use Rattle.std.proofs.lemmas.List.{take_all, length-take, take-append-le}
 use Rattle.mt_base.specs.declared.event.Msg.{Msg}
 
 -- a message that there is room for
-pub put_in : (n : ℕ) (items ms : List Msg) (m : Msg) → items ≡ take n ms → length items < n → items ++ m ∷ [] ≡ take n (ms ++ m ∷ [])
+pub put_in : (n : ℕ) (items ms : List Msg) (m : Msg) → items ≡ take n ms → length items < n
+    → items ++ m ∷ [] ≡ take n (ms ++ m ∷ [])
 put_in n items ms m e h =
     let sized : length (take n ms) ≡ min n (length ms) = length-take n ms in
     let low : length ms < n = short (length ms) (subst (λ (k : ℕ). k < n) (ap length e ∙ sized) h) in

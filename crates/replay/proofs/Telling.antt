@@ -12,7 +12,8 @@ use Rattle.state_laws.specs.HeardLaws.{Arrives, LeavesTheOthers, KeepsTheTuning}
 use Rattle.replay.specs.Brings.{Brings, IsHeard, heard}
 
 pub brings_so : Reaches → HasRoom → SendsAtMost → SendsFewOnes → SendsValidOnes → SendsOnlySettings
-    → (c : ℕ) (now wanted : State) → c ≤ 15 → IsWellFormed now → IsWellFormed wanted → counted now.own ≤ 16 → counted wanted.own ≤ 16
+    → (c : ℕ) (now wanted : State) → c ≤ 15 → IsWellFormed now → IsWellFormed wanted → counted now.own ≤ 16
+    → counted wanted.own ≤ 16
     → Brings c now wanted (bring c now wanted)
 brings_so reach room most few valid settings c now wanted ok from to less fewer = record {
   reached = reach c now wanted from to;
@@ -26,7 +27,8 @@ brings_so reach room most few valid settings c now wanted ok from to less fewer 
     within : (a b n : ℕ) → a ≤ 16 → b ≤ 16 → n ≤ max a b → n ≤ 16
     within a b n h k l = omega (arith, h, k, l)
 
-pub heard_so : Arrives → LeavesTheOthers → KeepsTheTuning → (c : ℕ) (now wanted : State) → IsHeard c now wanted (bring c now wanted)
+pub heard_so : Arrives → LeavesTheOthers → KeepsTheTuning → (c : ℕ) (now wanted : State)
+    → IsHeard c now wanted (bring c now wanted)
 heard_so arrive others tuning c now wanted = record {
   reached = λ m t track can at. at_state m t track (state_at m c) at (arrive m t track c wanted) can;
   others = λ m t track d can x. others m t track c now wanted can d x;
@@ -35,6 +37,7 @@ heard_so arrive others tuning c now wanted = record {
   where
     at_state : (m : Music) (t track : ℕ) (s : State) → s ≡ now
         → (CanBring m c s wanted → SoundsOnce c m → SoundsWherePressed c wanted (brought_to m t track c s wanted) → Match (state_at (brought_to m t track c s wanted) c) wanted)
-        → CanBring m c now wanted → SoundsOnce c m → SoundsWherePressed c wanted (heard m t track (bring c now wanted)) → Match (state_at (heard m t track (bring c now wanted)) c) wanted
+        → CanBring m c now wanted → SoundsOnce c m → SoundsWherePressed c wanted (heard m t track (bring c now wanted))
+        → Match (state_at (heard m t track (bring c now wanted)) c) wanted
     at_state m t track s e h =
         subst (λ (x : State). CanBring m c x wanted → SoundsOnce c m → SoundsWherePressed c wanted (brought_to m t track c x wanted) → Match (state_at (brought_to m t track c x wanted) c) wanted) e h

@@ -87,7 +87,8 @@ pub none_behind : (kind : Kind) (c : ℕ) (xs ys : List ℕ) (i : ℕ) → i ≤
 none_behind kind c xs ys i low sized same =
     let n : ℕ = length xs - i in
     let f : i + n ≡ length xs = omega (arith, low) in
-    let none : behind kind c xs ys (length xs) ≡ [] = ended (drop (length xs) xs) (drop (length xs) ys) (omega (arith, length-drop (length xs) xs)) in
+    let none : behind kind c xs ys (length xs) ≡ [] =
+    ended (drop (length xs) xs) (drop (length xs) ys) (omega (arith, length-drop (length xs) xs)) in
     sym (ap (upto kind c xs ys) (sym f) ∙ skip kind c xs ys i n (λ k a b. same k a (omega (arith, b, f))))
     ∙ sym (append-nil (upto kind c xs ys (length xs)))
     ∙ ap (λ l. upto kind c xs ys (length xs) ++ l) (sym none)

@@ -35,8 +35,10 @@ heard m t track ms = play m (events_of t track ms)
 pub record IsHeard (c : ℕ) (now wanted : State) (ms : List Msg) : Type 0 where
   pub reached : (m : Music) (t track : ℕ) → CanBring m c now wanted → state_at m c ≡ now → SoundsOnce c m
       → SoundsWherePressed c wanted (heard m t track ms) → Match (state_at (heard m t track ms) c) wanted
-  pub others : (m : Music) (t track d : ℕ) → CanBring m c now wanted → d ≢ c → state_at (heard m t track ms) d ≡ state_at m d
-  pub tuning : (r : Receiver) (t track : ℕ) → CanBring r.music c now wanted → (receive_all r (events_of t track ms)).tuning ≡ r.tuning
+  pub others : (m : Music) (t track d : ℕ) → CanBring m c now wanted → d ≢ c
+      → state_at (heard m t track ms) d ≡ state_at m d
+  pub tuning : (r : Receiver) (t track : ℕ) → CanBring r.music c now wanted
+      → (receive_all r (events_of t track ms)).tuning ≡ r.tuning
 
 -- on any channel the messages are n
 abbrev pub HasLength : State → State → ℕ → Type 0

@@ -25,8 +25,8 @@ const RPN_MSB: u8 = 101;
 /// The byte that, as both bytes of a number, names no parameter.
 const NULL: u8 = 127;
 
-/// The parameters that differ, with their wanted values: first those that are wanted at their defaults, then the others, each
-/// group in the order of numbers.
+/// The parameters that differ, with their wanted values: first those that are wanted at their defaults,
+/// then the others, each group in the order of numbers.
 fn changes(now: &ChannelState, wanted: &ChannelState) -> ArrayVec<Param, 40>
     ensures { entries_of result.items ≡ changed (state_of now.now) (state_of wanted.now) }
 {
@@ -77,7 +77,8 @@ fn put_parameter<S: Sink>(channel: Channel, now: (u8, u8), param: &Param, out: &
 
 /// Sets parameters, one after another.
 fn put_each<S: Sink>(channel: Channel, now: &ChannelState, changes: &[Param], out: &mut S)
-    ensures { Puts S.holds out.old out.new (bring_each channel (own_of now.now).params (entries_of changes.now)) }
+    ensures { Puts S.holds out.old out.new
+        (bring_each channel (own_of now.now).params (entries_of changes.now)) }
 {
     for param in changes {
         if out.is_done() {
@@ -96,7 +97,9 @@ pub(crate) fn put_params<S: Sink>(
     out: &mut S,
 )
     ensures { Puts S.holds out.old out.new
-        (closed channel (bring_each channel (own_of now.now).params (changed (state_of now.now) (state_of wanted.now)))) }
+        (closed channel
+        (bring_each channel (own_of now.now).params
+        (changed (state_of now.now) (state_of wanted.now)))) }
 {
     let changes = changes(now, wanted);
     put_each(channel, now, changes.as_slice(), out);

@@ -32,8 +32,8 @@ fn message(kind: Kind, channel: Channel, place: usize, value: u8) -> Msg
     }
 }
 
-/// A message for each place at which two tables differ, in order. It looks only at places that aren't at their defaults in one of
-/// the two.
+/// A message for each place at which two tables differ, in order. It looks only at places that aren't at
+/// their defaults in one of the two.
 pub(crate) fn put_differences<S: Sink, const N: usize>(
     kind: Kind,
     channel: Channel,

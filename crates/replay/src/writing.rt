@@ -31,7 +31,8 @@ fn has_voice_of(now: &ChannelState, wanted: &ChannelState) -> bool
 
 /// Where the voices differ: the bank bytes that aren't selected now, and the program.
 fn put_voice<S: Sink>(channel: Channel, now: &ChannelState, wanted: &ChannelState, out: &mut S)
-    ensures { Puts S.holds out.old out.new (bring_voice channel (own_of now.now) (own_of wanted.now).voice) }
+    ensures { Puts S.holds out.old out.new
+        (bring_voice channel (own_of now.now) (own_of wanted.now).voice) }
 {
     if has_voice_of(now, wanted) {
         return;
@@ -53,8 +54,10 @@ fn put_controllers_left<S: Sink>(
     wanted: &ChannelState,
     out: &mut S,
 )
-    ensures { Puts S.holds out.old out.new (bring_controls channel 0
-        (after_voice channel (state_of now.now) (state_of wanted.now)).controls (own_of wanted.now).controls) }
+    ensures { Puts S.holds out.old out.new
+        (bring_controls channel 0
+        (after_voice channel (state_of now.now) (state_of wanted.now)).controls
+        (own_of wanted.now).controls) }
 {
     now.well_formed();
     wanted.well_formed();
@@ -112,8 +115,10 @@ fn put_all<S: Sink>(channel: Channel, now: &ChannelState, wanted: &ChannelState,
     put_differences(Kind::KeyPressures, channel, &now.keys, &wanted.keys, out);
 }
 
-/// Writes the messages that bring a channel from one state to another, into an empty list: the voice, the controllers, the
-/// parameters, the pressure, the bend and the key pressures, as far as they differ. The tuning programs aren't looked at.
+/// Writes the messages that bring a channel from one state to another, into an empty list: the voice, the
+/// controllers, the parameters, the pressure, the bend and the key pressures, as far as they differ. A channel
+/// that takes them is at the wanted state then, in everything but what is selected for data entry. The tuning
+/// programs aren't looked at, and none is selected.
 pub fn bring(
     now: &ChannelState,
     wanted: &ChannelState,
@@ -158,7 +163,8 @@ pub fn bring_length(now: &ChannelState, wanted: &ChannelState) -> u16
     count_up_to(now, wanted, MOST)
 }
 
-/// The same where it is at most the bound; None exactly where it is more. It stops as soon as the bound is passed.
+/// The same where it is at most the bound; None exactly where it is more. It stops as soon as the bound is
+/// passed.
 pub fn bring_length_within(now: &ChannelState, wanted: &ChannelState, bound: u16) -> Option<u16>
     ensures some { IfSome result (HasLength (state_of now.now) (state_of wanted.now)) }
     ensures within { IfSome result (λ n. n ≤ bound) }

@@ -9,8 +9,10 @@ use Rattle.replay.proofs.writing.bring.Goals as goal
 
 pub returns-clause-messages : goal.returns-clause-messages
 returns-clause-messages c =
-    let most = c.messages_are_few.ensures.most c.args.channel (state_of c.args.now.now) (state_of c.args.wanted.now) c.well_formed-2.ensures.formed c.well_formed-3.ensures.formed c.well_formed-2.ensures.few c.well_formed-3.ensures.few in
-    c.put_all.ensures 0 [] c.requires ∙ take_all 400 (bring c.args.channel (state_of c.args.now.now) (state_of c.args.wanted.now)) (omega (arith, most))
+    let most =
+    c.messages_are_few.ensures.most c.args.channel (state_of c.args.now.now) (state_of c.args.wanted.now) c.well_formed-2.ensures.formed c.well_formed-3.ensures.formed c.well_formed-2.ensures.few c.well_formed-3.ensures.few in
+    c.put_all.ensures 0 [] c.requires
+    ∙ take_all 400 (bring c.args.channel (state_of c.args.now.now) (state_of c.args.wanted.now)) (omega (arith, most))
 
 pub returns-clause-brings : goal.returns-clause-brings
 returns-clause-brings c =

@@ -6,4 +6,5 @@ use Rattle.replay.proofs.writing.count_up_to.Goals as goal
 pub returns : goal.returns
 returns c =
     let counted = c.put_all.ensures c.args.bound [] (refl, omega arith) in
-    counted.1 ∙ ap (λ d. min (length (bring d (state_of c.args.now.now) (state_of c.args.wanted.now))) (c.args.bound + 1)) c.default.ensures
+    counted.1
+    ∙ ap (λ d. min (length (bring d (state_of c.args.now.now) (state_of c.args.wanted.now))) (c.args.bound + 1)) c.default.ensures
