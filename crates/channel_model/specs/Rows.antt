@@ -36,9 +36,9 @@ channel_by used row at k p = get_or used (row (since is_same_pair at p k)) 0
 -- the shortest setup.
 pub record IsBendPlan (o : Options) (allowed : ℕ → Bool) (table : Targets) (es : List MidiEvent) (z n instant : ℕ) (row : ℕ → ℕ) (channel : ℕ → Pair → ℕ) : Type 0 where
   pub need : IsNeedOf o (is_part o) table es z n instant
-  pub allowed : n ≤ length (allowed_row o allowed)
+  pub within : n ≤ length (allowed_row o allowed)
   pub takes : TakesShortest o table (port_at es z) (length es) n row
-  pub channel : (k : ℕ) (p : Pair) → channel k p ≡ channel_by (used_row o allowed n) row (pairs_on o (is_part o) table es z) k p
+  pub given : (k : ℕ) (p : Pair) → channel k p ≡ channel_by (used_row o allowed n) row (pairs_on o (is_part o) table es z) k p
 
 -- one channel of a port alone
 abbrev pub only : ℕ → ℕ → Bool
@@ -48,7 +48,7 @@ only c d = nat_eq d c
 pub record IsZonePlan (o : Options) (table : Targets) (es : List MidiEvent) (z : ℕ) (zone : Zone) (instant : ℕ) (row : ℕ → ℕ) (channel : ℕ → Pair → ℕ) : Type 0 where
   pub need : IsNeedOf o (only zone.part) table es z zone.members instant
   pub takes : TakesShortestMember o (only zone.part) table (port_at es z) (length es) zone.members row
-  pub channel : (k : ℕ) (p : Pair) → p.part.channel ≡ zone.part → channel k p ≡ channel_by (zone_row zone) row (pairs_on o (only zone.part) table es z) k p
+  pub given : (k : ℕ) (p : Pair) → p.part.channel ≡ zone.part → channel k p ≡ channel_by (zone_row zone) row (pairs_on o (only zone.part) table es z) k p
 
 -- the parts of a port that have a note on, with their needs
 abbrev pub needs_of : (ℕ → ℕ) → List ℕ → List (ℕ × ℕ)
@@ -56,16 +56,16 @@ needs_of need [] = []
 needs_of need (c ∷ cs) = (c, need c) ∷ needs_of need cs
 
 -- whether each zone has no more members than it may
-abbrev pub zones_fit : Bool → List Zone → Type 0
-zones_fit drums [] = Unit {0}
-zones_fit drums (l ∷ []) = l.members ≤ lower_allowed drums (l ∷ [])
-zones_fit drums (l ∷ u ∷ _) = (l.members ≤ lower_allowed drums (l ∷ u ∷ [])) × (u.members ≤ upper_allowed drums)
+abbrev pub ZonesFit : Bool → List Zone → Type 0
+ZonesFit drums [] = Unit {0}
+ZonesFit drums (l ∷ []) = l.members ≤ lower_allowed drums (l ∷ [])
+ZonesFit drums (l ∷ u ∷ _) = (l.members ≤ lower_allowed drums (l ∷ u ∷ [])) × (u.members ≤ upper_allowed drums)
 
 -- The zones of a port: at most two parts have a note on, each zone is of one of them, and none has more members than it may.
 pub record AreZonesOf (o : Options) (es : List MidiEvent) (z : ℕ) (need : ℕ → ℕ) (zones : List Zone) : Type 0 where
   pub few : length (sounding_parts o (events_on z es)) ≤ 2
-  pub zones : zones ≡ zones_for (needs_of need (sounding_parts o (events_on z es)))
-  pub fit : zones_fit (keeps_drums o (events_on z es)) zones
+  pub by_need : zones ≡ zones_for (needs_of need (sounding_parts o (events_on z es)))
+  pub fit : ZonesFit (keeps_drums o (events_on z es)) zones
 
 -- ---- the assignment that is read from an output
 
