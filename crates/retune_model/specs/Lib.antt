@@ -12,6 +12,7 @@ pub mod Rests
 pub mod LastEnds
 pub mod Need
 pub mod Runs
+pub mod RunLaws
 pub mod PortNeed
 pub mod PortLaws
 pub mod RestLaws

@@ -1,18 +1,58 @@
 -- Laws of what the routes write, port by port.
-use Rattle.std.specs.Prelude.{◌≡◌, ℕ, List}
+use Rattle.std.specs.Prelude.{◌≡◌, ◌≤◌, ◌<◌, ◌^◌, ◌++◌, ℕ, Bool, true, false, List, [], ◌∷◌, length}
 use Rattle.std.specs.List.{AllByRecursion}
 use Rattle.mt_base.specs.Midi.{MidiEvent}
 use Rattle.midi_model.specs.FileText.{MidiFile}
-use Rattle.midi_model.specs.Merged.{merged}
+use Rattle.midi_model.specs.Merged.{merged, IsPlayable}
+use Rattle.midi_model.specs.Music.{quiet}
+use Rattle.midi_model.specs.Receiver.{after}
 use Rattle.retune_model.specs.Table.{Scaling}
 use Rattle.retune_model.specs.Options.{Options}
 use Rattle.retune_model.specs.Ports.{Numbered, NamesNoOther, of_port, events_on}
 use Rattle.retune_model.specs.PlaysTheSame.{plain_device, PlayTheSame, HasSameShape, PlaysTheSame}
 use Rattle.retune_model.specs.Faults.{Targets}
 use Rattle.retune_model.specs.PortOutput.{IsBeside, by_history, ports_by_history}
-use Rattle.retune_model.specs.Routes.{dump_output, live_output}
+use Rattle.retune_model.specs.Blocks.{Block, output, sources, Fits, all_events}
+use Rattle.retune_model.specs.Routes.{Setup, Live, IsHarmless, IsHarmlessLive, nothing_told, dump_output, live_output}
+use Rattle.retune_model.specs.Plain.{ArePlain, IsTuned, IsTold, Reads, has_begun, told_after}
 use Rattle.retune_model.specs.Dump.{dump_setup, live_setup, dumped, told_live}
 use Rattle.retune_model.specs.Dumpable.{IsDumpable, IsLivable}
+
+-- ---- blocks whose groups aren't heard play the source's music
+
+-- after each block
+abbrev pub BlocksPlayTheirSources : Type 0
+BlocksPlayTheirSources = (xs ys : List Block) → Fits quiet (xs ++ ys) → (after (output xs)).music ≡ (after (sources xs)).music
+
+-- and within a block right after its source event
+abbrev pub BlocksPlayWithin : Type 0
+BlocksPlayWithin = (xs : List Block) (b : Block) (ys : List Block) → Fits quiet (xs ++ b ∷ ys) →
+    (after (output xs ++ (all_events b.before ++ b.event ∷ []))).music ≡ (after (sources xs ++ b.event ∷ [])).music
+
+-- ---- one port on dump and live
+
+-- the source's music is kept
+abbrev pub DumpedMusicIsKept : Type 0
+DumpedMusicIsKept = (s : Setup) (es : List MidiEvent) → IsHarmless s → (after (dump_output s es)).music ≡ (after es).music
+
+-- once a channel message came, the tuning is the dumped one
+abbrev pub DumpTunes : Type 0
+DumpTunes = (s : Setup) (part : ℕ → Bool) (es : List MidiEvent) → IsHarmless s → AllByRecursion (λ c. part c ≡ true) s.channels →
+    ArePlain part quiet es → has_begun false es ≡ true → IsTuned s (after (dump_output s es)).tuning
+
+abbrev pub ToldMusicIsKept : Type 0
+ToldMusicIsKept = (l : Live) (es : List MidiEvent) → IsHarmlessLive l → (after (live_output l es)).music ≡ (after es).music
+
+-- each key that was told has its value
+abbrev pub LiveTunes : Type 0
+LiveTunes = (l : Live) (value : ℕ → ℕ) (es : List MidiEvent) → IsHarmlessLive l → Reads l value → AllByRecursion (λ c. l.is_retuned c ≡ true) l.setup.channels →
+    ArePlain l.is_retuned quiet es → IsTold l value (told_after l nothing_told es) (after (live_output l es)).tuning
+
+-- ---- what the dump route writes can be written as a file like its source: it is valid, in order, and each track ends once
+
+abbrev pub DumpedIsPlayable : Type 0
+DumpedIsPlayable = (tracks : ℕ) (o : Options) (bytes : List ℕ) (es : List MidiEvent) →
+    length bytes < 2 ^ 28 → o.program ≤ 127 → IsPlayable tracks es → IsPlayable tracks (dumped o bytes es)
 
 -- ---- each port of an output is what its rule makes of the port's events
 

@@ -26,18 +26,22 @@ returns-clause-valid c o part table es z n row parts sound takes =
     let port = port_at es z in
     let aimed = c.sound_sources.ensures.aimed o part table es z parts sound in
     c.run_laws.ensures.valid (holds_at part o.tail port) (pair_at o part table port (length es)) (notes_on part es z) (pairs_on o part table es z) (length es) n (began_at part (of_port z es) (length es)) row
-    (c.rests_are_runs.ensures.pairs o part table port (length es) aimed)
-    (c.rests_are_runs.ensures.unbroken part o.tail port (length es) aimed.timed)
-    (c.rests_are_runs.ensures.one_begins o part table port (length es) aimed) takes
+    (record {
+      pairs = c.rests_are_runs.ensures.pairs o part table port (length es) aimed;
+      unbroken = c.rests_are_runs.ensures.unbroken part o.tail port (length es) aimed.timed;
+      one = c.rests_are_runs.ensures.one_begins o part table port (length es) aimed;
+    }) takes
 
 pub returns-clause-as_many : goal.returns-clause-as_many
 returns-clause-as_many c o part table es z n instant row h takes =
     let port = port_at es z in
     let aimed = c.sound_sources.ensures.aimed o part table es z h.parts h.sound in
     c.run_laws.ensures.as_many (holds_at part o.tail port) (pair_at o part table port (length es)) (notes_on part es z) (pairs_on o part table es z) (length es) n instant (began_at part (of_port z es) (length es)) row
-    (c.rests_are_runs.ensures.pairs o part table port (length es) aimed) h.need
-    (c.rests_are_runs.ensures.unbroken part o.tail port (length es) aimed.timed)
-    (c.rests_are_runs.ensures.one_begins o part table port (length es) aimed) takes
+    (record {
+      pairs = c.rests_are_runs.ensures.pairs o part table port (length es) aimed;
+      unbroken = c.rests_are_runs.ensures.unbroken part o.tail port (length es) aimed.timed;
+      one = c.rests_are_runs.ensures.one_begins o part table port (length es) aimed;
+    }) h.need takes
 
 pub returns-clause-once : goal.returns-clause-once
 returns-clause-once c o part table es z k = ordered_distinct (pairs_on o part table es z k) (pairs_ordered z o table (holding part o.tail (port_at es z) k))
