@@ -1,13 +1,13 @@
 -- The places of runs are a cover.
-use Rattle.std.proofs.Common.{◌≡◌, ◌≢◌, ◌⊎◌, inl, inr, ℕ, zero, suc, ◌+◌, ◌<◌, ◌≤◌, List, [], ◌∷◌, length, get_or, map, true, false, cond, nat_eq, refl, sym, ap, ◌∙◌, subst, arith}
-use Rattle.std.specs.Prelude.{Option, Some, None, IsSome, ℤ, pos, ◌+ℤ◌, ◌≤ℤ◌}
+use Rattle.std.proofs.Common.{◌≡◌, ◌≢◌, inl, inr, ℕ, zero, suc, ◌+◌, ◌<◌, ◌≤◌, List, [], ◌∷◌, length, get_or, map, true, false, nat_eq, refl, sym, ap, ◌∙◌, subst, arith}
+use Rattle.std.specs.Prelude.{Option, Some, None, pos, ◌≤ℤ◌}
 use Rattle.std.specs.List.{AllByRecursion}
 use Rattle.std.proofs.lemmas.Int.{ints}
 use Rattle.std.proofs.lemmas.Bool.Decides.{nat_tests}
-use Rattle.least_replay.specs.Cover.{Table, starts_in, IsCover, cost_at, price_from, price, total, IsGood, IsLeast}
-use Rattle.least_replay.specs.Assignments.{HasPosition, AreRuns, IsAssignment, last_on, before_on, chains_from, cost_from, assignment_cost}
+use Rattle.least_replay.specs.Cover.{Table, starts_in, IsCover, cost_at, price_from, price, total, IsLeast}
+use Rattle.least_replay.specs.Assignments.{AreRuns, IsAssignment, last_on, before_on, chains_from, cost_from, assignment_cost}
 use Rattle.least_replay.proofs.Certified.{ones, ones_total, ones_length, ones_positive, ones_one}
-use Rattle.least_replay.proofs.Duality.{Apart, lt_or_ge, part_le_total, law}
+use Rattle.least_replay.proofs.Duality.{Apart, lt_or_ge, part_le_total}
 use Rattle.least_replay.proofs.Trees.{same_or_not, some_same, option_cases}
 
 at_last : (place : ℕ → ℕ) (c n : ℕ) → place n ≡ c → last_on place c (suc n) ≡ Some n

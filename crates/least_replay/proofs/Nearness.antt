@@ -1,13 +1,13 @@
 -- How near columns come to a row.
-use Rattle.std.proofs.Common.{◌≡◌, ◌≢◌, ◌⊎◌, inl, inr, ℕ, ◌+◌, ◌-◌, ◌*◌, ◌<◌, ◌≤◌, List, length, get_or, refl, sym, ap, ◌∙◌, subst, arith}
-use Rattle.std.specs.Prelude.{Option, Some, None}
+use Rattle.std.proofs.Common.{◌≡◌, ◌≢◌, inl, inr, ℕ, ◌+◌, ◌-◌, ◌<◌, ◌≤◌, List, length, refl, sym, ◌∙◌, subst, arith}
+use Rattle.std.specs.Prelude.{Option}
 use Rattle.std.proofs.lemmas.List.{get_or_past}
 use Rattle.least_replay.specs.Cover.{Table}
-use Rattle.least_replay.specs.Tree.{at, row_at, IsTree, IsRelaxed, IsRelaxedIn}
-use Rattle.least_replay.specs.Columns.{over, step, weight, top}
+use Rattle.least_replay.specs.Tree.{at, IsTree, IsRelaxed, IsRelaxedIn}
+use Rattle.least_replay.specs.Columns.{over, weight, top}
 use Rattle.least_replay.proofs.Duality.{lt_or_ge}
-use Rattle.least_replay.proofs.Trees.{zero_or_more, outside}
-use Rattle.least_replay.proofs.Weights.{IsAhead, weight_start, weight_end, weight_run, behind_other, top_end}
+use Rattle.least_replay.proofs.Trees.{zero_or_more}
+use Rattle.least_replay.proofs.Weights.{weight_start, weight_end, top_end}
 
 end_low : (t : Table) → t.runs ≤ 2000 → (r j : ℕ) → t.runs ≤ r → weight t r j ≤ 2000000000
 end_low t few r j h = elim (lt_or_ge j t.runs) [

@@ -1,5 +1,5 @@
 -- Where all ends are in, the numbers without what is stepped over are a certificate.
-use Rattle.std.proofs.Common.{◌≡◌, ◌≢◌, inl, inr, ℕ, ◌+◌, ◌-◌, ◌*◌, ◌<◌, ◌≤◌, List, length, get_or, take, refl, sym, ap, ◌∙◌, subst, arith, length-take-le, get_or-take}
+use Rattle.std.proofs.Common.{◌≡◌, ◌≢◌, inl, inr, ℕ, ◌+◌, ◌-◌, ◌<◌, ◌≤◌, List, length, take, refl, sym, ap, ◌∙◌, subst, arith, length-take-le, get_or-take}
 use Rattle.std.specs.Prelude.{Option, Some, None}
 use Rattle.std.proofs.lemmas.List.{get_or_past}
 use Rattle.least_replay.specs.Cover.{Table}
@@ -7,7 +7,7 @@ use Rattle.least_replay.specs.Columns.{over, step, top, behind, weight, alone, I
 use Rattle.least_replay.specs.Tree.{at, row_at, IsMatched}
 use Rattle.least_replay.proofs.Duality.{lt_or_ge}
 use Rattle.least_replay.proofs.Trees.{option_cases, same_or_not, some_same}
-use Rattle.least_replay.proofs.Weights.{IsAhead, top_run, top_end, weight_start, weight_run, weight_end, behind_own, behind_other}
+use Rattle.least_replay.proofs.Weights.{IsAhead, top_run, top_end, weight_start, weight_run, weight_end, behind_other}
 
 -- all ends cost the same behind each column
 same_end : (t : Table) (r j : ℕ) → t.runs ≤ r → weight t r j ≡ weight t t.runs j

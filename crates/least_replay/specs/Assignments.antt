@@ -1,7 +1,7 @@
 -- Places of runs, as an assignment of channels gives them, and what that costs. This project's own.
 --
 -- A place is one of the first channels that are allowed. Each run keeps the place that it has.
-use Rattle.std.specs.Prelude.{ℕ, zero, suc, ◌+◌, ◌≡◌, ◌≢◌, ◌<◌, ◌≤◌, nat_eq, cond, List, [], ◌∷◌, Option, Some, None, IsSome}
+use Rattle.std.specs.Prelude.{ℕ, zero, suc, ◌+◌, ◌≢◌, ◌<◌, ◌≤◌, nat_eq, cond, List, [], ◌∷◌, Option, Some, None, IsSome}
 use Rattle.least_replay.specs.Cover.{Table, cost_at}
 
 -- run b has the positions from `first b` to `last b`

@@ -1,6 +1,5 @@
-use Rattle.std.proofs.Common.{◌≡◌, ◌<◌, ◌≤◌, ◌+◌, ◌-◌, ℕ, arith, length, get_or, subst}
-use Rattle.least_replay.specs.Costs.{told}
-use Rattle.least_replay.specs.Columns.{weight, step}
+use Rattle.std.proofs.Common.{◌+◌, ℕ, arith, subst}
+use Rattle.least_replay.specs.Columns.{weight}
 use Rattle.least_replay.specs.CostView.{table_of}
 use Rattle.least_replay.specs.Tree.{at, IsRelaxed}
 use Rattle.least_replay.proofs.Nearness.{relaxed_next}

@@ -1,4 +1,4 @@
-use Rattle.std.proofs.Common.{◌≡◌, ◌<◌, ◌≤◌, ◌+◌, ℕ, arith, length, subst}
+use Rattle.std.proofs.Common.{◌+◌, ℕ, arith, subst}
 use Rattle.least_replay.specs.Columns.{weight}
 use Rattle.least_replay.specs.CostView.{table_of}
 use Rattle.least_replay.specs.Tree.{at, IsRelaxed}

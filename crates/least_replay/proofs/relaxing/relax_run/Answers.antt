@@ -1,9 +1,9 @@
-use Rattle.std.proofs.Common.{◌≡◌, ◌<◌, ◌≤◌, ◌+◌, ◌-◌, ℕ, arith, length, subst, sym}
+use Rattle.std.proofs.Common.{◌≡◌, ◌+◌, ℕ, arith, length, subst, sym}
 use Rattle.least_replay.specs.Columns.{weight, IsNearer}
 use Rattle.least_replay.specs.CostView.{table_of}
-use Rattle.least_replay.specs.Tree.{at, IsRelaxed, IsRelaxedIn}
+use Rattle.least_replay.specs.Tree.{at, IsRelaxed}
 use Rattle.least_replay.proofs.Nearness.{relaxed_on, relaxed_next, relaxed_past}
-use Rattle.least_replay.proofs.Weights.{weight_own, weight_past, ahead_of}
+use Rattle.least_replay.proofs.Weights.{weight_own, weight_past, ahead}
 use Rattle.least_replay.proofs.relaxing.relax_run.Goals as goal
 
 pub relax_one-requires-clause-fits : goal.relax_one-requires-clause-fits
@@ -12,7 +12,6 @@ relax_one-requires-clause-fits c =
 
 pub returns : goal.returns
 returns c =
-    let m = c.args.costs.now.matrix in
     let own : weight (table_of c.args.costs.now) c.args.r c.args.r ≡ 0 = weight_own (table_of c.args.costs.now) c.args.r c.requires.run in
     let near : IsNearer (table_of c.args.costs.now) c.args.r 0 (c.args.r + 1) c.args.size c.args.u c.args.v.now c.args.slack.now c.relax_one.new.slack c.args.from.now c.relax_one.new.from =
     relaxed_next 0 c.args.r c.args.size c.args.u (λ j. weight (table_of c.args.costs.now) c.args.r j + at c.args.v.now j)
@@ -23,7 +22,7 @@ returns c =
     relaxed_past _ _ _ _ (λ j. weight (table_of c.args.costs.now) c.args.r j + at c.args.v.now j) _ _
     (λ j g l.
     let far : weight (table_of c.args.costs.now) c.args.r j ≡ 10000000000 =
-    weight_past (table_of c.args.costs.now) (ahead_of m.runs m.starts m.start.items m.after.items m.few) c.args.r j (omega (arith, g)) l in
+    weight_past (table_of c.args.costs.now) (ahead c.args.costs.now) c.args.r j (omega (arith, g)) l in
     omega (arith, far, near.slack_above j g, c.requires.near j, c.requires.u_low)) in
     let runs : c.runs.result ≡ (table_of c.args.costs.now).runs = c.runs.ensures.value in
     let same : length c.relax_one.new.slack ≡ length c.args.slack.now = omega arith in

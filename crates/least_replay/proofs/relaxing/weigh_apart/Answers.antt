@@ -1,4 +1,4 @@
-use Rattle.std.proofs.Common.{◌≡◌, ◌<◌, ◌≤◌, arith}
+use Rattle.std.proofs.Common.{arith}
 use Rattle.least_replay.specs.CostView.{table_of}
 use Rattle.least_replay.proofs.Weights.{apart_start}
 use Rattle.least_replay.proofs.relaxing.weigh_apart.Goals as goal

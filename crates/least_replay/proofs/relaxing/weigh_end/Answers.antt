@@ -1,5 +1,4 @@
-use Rattle.std.proofs.Common.{◌≡◌, sym, ◌∙◌, arith}
-use Rattle.least_replay.specs.Columns.{over}
+use Rattle.std.proofs.Common.{arith}
 use Rattle.least_replay.specs.CostView.{table_of}
 use Rattle.least_replay.proofs.Weights.{weight_end, weight_start, top_end}
 use Rattle.least_replay.proofs.relaxing.weigh_end.Goals as goal

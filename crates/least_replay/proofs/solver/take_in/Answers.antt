@@ -1,14 +1,13 @@
-use Rattle.std.proofs.Common.{◌≡◌, ◌<◌, ◌≤◌, ◌+◌, ◌-◌, ℕ, List, arith, length, subst, sym, ◌∙◌}
+use Rattle.std.proofs.Common.{◌≡◌, ◌<◌, ◌≤◌, ◌+◌, ◌-◌, ℕ, List, arith, subst, sym, ◌∙◌}
 use Rattle.std.specs.Prelude.{Option}
 use Rattle.least_replay.specs.Cover.{Table}
-use Rattle.least_replay.specs.Columns.{weight, top, over, all_columns, IsPaired}
+use Rattle.least_replay.specs.Columns.{weight, top, over, IsPaired}
 use Rattle.least_replay.specs.CostView.{table_of}
 use Rattle.least_replay.specs.Costs.{AreLow}
-use Rattle.least_replay.specs.declared.costs.Costs.{Costs}
-use Rattle.least_replay.specs.Tree.{at, IsMatched}
+use Rattle.least_replay.specs.Tree.{at}
 use Rattle.least_replay.proofs.Trees.{settled, low_column}
 use Rattle.least_replay.proofs.Settled.{least_run, least_column, settled_numbers}
-use Rattle.least_replay.proofs.Weights.{IsAhead, ahead_of, weight_own, top_run, top_low}
+use Rattle.least_replay.proofs.Weights.{ahead, weight_own, top_run, top_low}
 use Rattle.least_replay.proofs.solver.take_in.Goals as goal
 
 pub loop-b-init : goal.loop-b-init
@@ -30,9 +29,6 @@ loop-b-init c =
 all_paired : (t : Table) (n : ℕ) (u v : List ℕ) (row_of : List (Option ℕ)) (col_of : List ℕ) → n ≡ t.runs + t.starts → IsPaired t n u v row_of col_of →
     IsPaired t (t.runs + t.starts) u v row_of col_of
 all_paired t n u v row_of col_of e m = subst (λ (x : ℕ). IsPaired t x u v row_of col_of) e m
-
-ahead : (c : Costs) → IsAhead (table_of c)
-ahead c = ahead_of c.matrix.runs c.matrix.starts c.matrix.start.items c.matrix.after.items c.matrix.few
 
 row_low : (t : Table) → AreLow t → (u v : List ℕ) (row_of : List (Option ℕ)) (col_of : List ℕ) → IsPaired t (t.runs + t.starts) u v row_of col_of →
     (b : ℕ) → b < t.runs → at u b ≤ 391 + over b

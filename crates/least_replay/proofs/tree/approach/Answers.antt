@@ -1,4 +1,4 @@
-use Rattle.std.proofs.Common.{◌≡◌, ◌≤◌, ◌<◌, ◌+◌, ◌-◌, ℕ, arith, length, subst, ap}
+use Rattle.std.proofs.Common.{◌≡◌, ◌≤◌, ◌<◌, ◌+◌, ◌-◌, ℕ, arith, length, subst}
 use Rattle.least_replay.specs.Cover.{Table}
 use Rattle.least_replay.specs.Tree.{at, IsTree}
 use Rattle.least_replay.specs.Columns.{weight, top}
@@ -20,7 +20,7 @@ raise-requires-clause-by_low c =
     let low = spare_low (table_of c.args.costs.now) c.args.b (length c.args.slack.now) c.requires.end c.requires.columns in
     let last : at c.args.slack.now n ≤ top (table_of c.args.costs.now) c.args.b = near_low _ _ _ _ _ _ _ _ _ _ _ _ t (low c.args.b (omega arith)) in
     let least : at c.args.slack.now c.nearest-j.result ≤ at c.args.slack.now n =
-    c.nearest-j.ensures.least n (omega (arith, t.some_column)) (outside _ _ _ _ _ _ _ _ _ _ _ _ t n t.spare) in
+    c.nearest-j.ensures.least n (omega (arith, t.one_more)) (outside _ _ _ _ _ _ _ _ _ _ _ _ t n t.spare) in
     omega (arith, last, least, few)
 
 pub raise-requires-clause-u_low : goal.raise-requires-clause-u_low

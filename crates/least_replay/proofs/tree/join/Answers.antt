@@ -1,4 +1,4 @@
-use Rattle.std.proofs.Common.{◌≡◌, ◌+◌, ◌<◌, ◌≤◌, ℕ, List, [], ◌∷◌, ◌++◌, set, inl, inr, get_or-set_same, get_or-set_other, length-append, arith, rules, length, subst, sym, ap, ◌∙◌}
+use Rattle.std.proofs.Common.{◌≡◌, ◌+◌, ◌<◌, ℕ, List, [], ◌∷◌, ◌++◌, set, inl, inr, get_or-set_same, get_or-set_other, length-append, arith, rules, length, subst, sym, ap, ◌∙◌}
 use Rattle.least_replay.specs.Tree.{at, IsTree, IsJoined, IsRelaxed}
 use Rattle.least_replay.specs.Columns.{weight, top}
 use Rattle.least_replay.specs.CostView.{table_of}
