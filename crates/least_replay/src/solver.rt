@@ -10,7 +10,7 @@ use crate::tree::grow;
 use mt_base::Memory;
 use std::alloc::Global;
 
-/// Moves the run that is nearest to the hole there, and returns the column that it leaves.
+/// Moves the row from which the hole is nearest there, and returns the column that it leaves.
 fn move_on(
     rows: &[usize],
     from: &[u32],
@@ -35,6 +35,7 @@ fn move_on(
     j
 }
 
+/// Puts the new end behind the hole.
 fn fill(b: usize, hole: usize, row_of: &mut [Option<usize>], col_of: &mut [usize])
     requires hole_within { hole < length row_of.old }
     requires row { b < length col_of.old }
@@ -44,7 +45,7 @@ fn fill(b: usize, hole: usize, row_of: &mut [Option<usize>], col_of: &mut [usize
     row_of[hole] = Some(b);
 }
 
-/// Moves each run on the way from a free column back to the new run.
+/// Moves each row on the way from a free column back to the new end.
 fn turn(
     costs: &Costs,
     b: usize,
@@ -73,7 +74,7 @@ fn turn(
     fill(b, hole, row_of, col_of);
 }
 
-/// The tree of a new run alone.
+/// The tree of a new end alone.
 fn plant(
     costs: &Costs,
     b: usize,
@@ -103,7 +104,7 @@ fn plant(
     u[b] = 0;
 }
 
-/// Takes in one more run, with what the tree needs.
+/// Takes in one more end, with what the tree needs.
 fn insert_with(
     costs: &Costs,
     b: usize,
@@ -162,7 +163,7 @@ fn insert_with(
     Ok(())
 }
 
-/// Takes in one more run.
+/// Takes in one more end.
 fn insert(
     alloc: Global,
     costs: &Costs,

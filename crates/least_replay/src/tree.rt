@@ -61,7 +61,7 @@ fn share(place: u32, inside: u32, outside: u32) -> u32
     if place != 0 { inside } else { outside }
 }
 
-/// Raises each run of the tree.
+/// Raises each row of the tree.
 fn raise_rows(u: &mut [u32], b: usize, col_of: &[usize], place: &[u32], by: u32)
     requires row { b < length u.old }
     requires columns_whole { b ≤ length col_of.now }
@@ -161,7 +161,7 @@ fn approach(
     j
 }
 
-/// Takes the run of a column into the tree.
+/// Takes the row of a column into the tree.
 fn join(
     costs: &Costs,
     b: usize,
@@ -203,7 +203,7 @@ fn join(
     Ok(())
 }
 
-/// Grows the tree until it reaches a column that no run has.
+/// Grows the tree until it reaches a column that no row has, and returns that column.
 pub fn grow(
     costs: &Costs,
     b: usize,
