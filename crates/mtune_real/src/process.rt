@@ -37,7 +37,8 @@ fn exit_code(outcome: &Outcome) -> ExitCode
 
 /// Does what the words behind the program's name ask for.
 fn perform<F: Files>(alloc: Global, words: &[String], files: &mut F) -> ExitCode
-    ensures { IsEnded (exit_status result) (F.outside files.old) (F.outside files.new) (map string_bytes words.now) }
+    ensures { IsEnded (exit_status result)
+        (F.outside files.old) (F.outside files.new) (map string_bytes words.now) }
 {
     match slices(alloc, words) {
         Ok(slices) => exit_code(&run(alloc, slices.as_slice(), files)),

@@ -12,8 +12,10 @@ const PIECE: usize = 16_384;
 /// Whether more than so many bytes are left to read. They are read, and given up.
 fn has_more<R: Read>(reader: &mut R, most: usize) -> io::Result<bool>
     requires { most < 4294967296 }
-    ensures more { IfOk result (λ more. IsTrue more → IfSome (R.remaining reader.old) (λ left. most < length left)) }
-    ensures within { IfOk result (λ more. more ≡ false → IfSome (R.remaining reader.old) (λ left. length left ≤ most)) }
+    ensures more { IfOk result (λ more. IsTrue more
+        → IfSome (R.remaining reader.old) (λ left. most < length left)) }
+    ensures within { IfOk result (λ more. more ≡ false
+        → IfSome (R.remaining reader.old) (λ left. length left ≤ most)) }
 {
     let mut piece = [0u8; PIECE];
     let mut taken = 0;
@@ -30,12 +32,15 @@ fn has_more<R: Read>(reader: &mut R, most: usize) -> io::Result<bool>
 /// All that is left to read, where that is at most `limit` bytes. Each turn takes a byte or ends.
 pub fn read_whole<R: Read>(alloc: Global, reader: &mut R, limit: u32) -> Result<Vec<u8>, LoadFault>
     // What is loaded is what was left, up to its end.
-    ensures taken { IfOk result (λ v. Consumes (R.remaining reader.old) (R.remaining reader.new) v.items) }
+    ensures taken { IfOk result
+        (λ v. Consumes (R.remaining reader.old) (R.remaining reader.new) v.items) }
     ensures ended { IfOk result (λ v. IsAtEnd (R.remaining reader.new)) }
 
     ensures short { IfOk result (λ v. length v.items ≤ limit) }
-    ensures too_long { IsErrOf result LoadFault.TooLong → IfSome (R.remaining reader.old) (λ left. limit < length left) }
-    ensures memory { IsErrOf result LoadFault.Memory → IfSome (R.remaining reader.old) (λ left. length left ≤ limit) }
+    ensures too_long { IsErrOf result LoadFault.TooLong
+        → IfSome (R.remaining reader.old) (λ left. limit < length left) }
+    ensures memory { IsErrOf result LoadFault.Memory
+        → IfSome (R.remaining reader.old) (λ left. length left ≤ limit) }
 {
     let limit = limit as usize;
     let mut all = Vec::new(alloc);

@@ -7,7 +7,8 @@ use std::io::Write;
 
 /// Writes all of the bytes. False where a piece isn't taken: then a front of them was written.
 pub fn write_all<W: Write>(writer: &mut W, content: &[u8]) -> bool
-    ensures whole { IsTrue result → Appends (W.contents writer.old) (W.contents writer.new) content.now }
+    ensures whole { IsTrue result
+        → Appends (W.contents writer.old) (W.contents writer.new) content.now }
     ensures front { WritesFront (W.contents writer.old) (W.contents writer.new) content.now }
 {
     let mut rest = content;
@@ -22,7 +23,8 @@ pub fn write_all<W: Write>(writer: &mut W, content: &[u8]) -> bool
 
 /// Writes a text, and hands it on at once.
 pub fn say_all<W: Write>(out: &mut W, text: &[u8]) -> bool
-    ensures whole { IsTrue result → Appends (W.contents out.old) (W.contents out.new) text.now }
+    ensures whole { IsTrue result
+        → Appends (W.contents out.old) (W.contents out.new) text.now }
     ensures front { WritesFront (W.contents out.old) (W.contents out.new) text.now }
 {
     write_all(out, text) && out.flush().is_ok()
@@ -34,7 +36,8 @@ pub fn write_new<F: Write + OpenFile>(
     permissions: Option<Permissions>,
     content: &[u8],
 ) -> bool
-    ensures whole { IsTrue result → Appends (F.contents file.old) (F.contents file.new) content.now }
+    ensures whole { IsTrue result
+        → Appends (F.contents file.old) (F.contents file.new) content.now }
     ensures front { WritesFront (F.contents file.old) (F.contents file.new) content.now }
 {
     if let Some(permissions) = permissions {
