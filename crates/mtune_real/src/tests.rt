@@ -2,6 +2,7 @@ use crate::real::RealFiles;
 use mtune_core::run;
 use mtune_files::{Files, LoadFault, MemFiles, Which};
 use std::alloc::Global;
+use std::fs;
 use std::process::Abort;
 use std::test::Fail;
 
@@ -152,5 +153,6 @@ fn files_are_stored_and_loaded(rt: HostRuntime) -> Result<(), Fail> {
     assert!(rt; files.store("none/one.mid", b"four").is_err());
     assert!(rt; files.store(".", b"four").is_err());
     check_held(&rt, alloc, &mut files, "one.mid", long.as_slice(), 100_000);
+    fs::remove_file(&rt, "one.mid")?;
     Ok(())
 }
