@@ -13,7 +13,8 @@ use Rattle.retune_model.specs.Rests.{notes_at, last_reset, past_at, lasts, holdi
 use Rattle.retune_model.proofs.Timeline.{Timeline, last_reset_le}
 use Rattle.retune_model.proofs.Moments.{Timely, timeline}
 use Rattle.retune_model.proofs.SamePairs.{same_pair}
-use Rattle.retune_model.proofs.Ordered.{Ordered, all_then, before_then, pairs_ordered, filter_twice}
+use Rattle.retune_model.proofs.Lists.{filter_twice}
+use Rattle.retune_model.proofs.Ordered.{Ordered, all_then, before_then, pairs_ordered}
 
 abbrev of_part : ℕ → Pair → Bool
 of_part c p = nat_eq p.part.channel c

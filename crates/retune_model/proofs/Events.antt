@@ -4,7 +4,8 @@ use Rattle.std.specs.List.{AllByRecursion}
 use Rattle.std.proofs.lemmas.Bool.{cases_lt, cases_eq, cases_Bool, le-leb, lt-leb, eq-eqb, ne_eqb, eqb-true}
 use Rattle.mt_base.specs.Midi.{MidiEvent}
 use Rattle.midi_model.specs.Sysex.{doing}
-use Rattle.midi_model.specs.Music.{Music, quiet, step, play}
+use Rattle.midi_model.specs.Music.{quiet, play}
+use Rattle.retune_model.proofs.Steady.{play-append}
 use Rattle.retune_model.specs.Ports.{Numbered, events_to, music_at, resets, is_reset_at, event_at, Ascend}
 
 pub came : (k : ℕ) (n : Numbered) (ns : List Numbered) → nat_le n.position k ≡ true → events_to k (n ∷ ns) ≡ n.event ∷ events_to k ns
@@ -82,9 +83,5 @@ reset_at k (n ∷ ns) = elim (cases_Bool (nat_eq n.position k)) [
   | inr e ↦ rw e (reset_at k ns)
 ]
 
-play_append : (m : Music) (xs ys : List MidiEvent) → play m (xs ++ ys) ≡ play (play m xs) ys
-play_append m [] ys = refl
-play_append m (x ∷ xs) ys = play_append (step m x) xs ys
-
 pub music_next : (a k : ℕ) (ns : List Numbered) → Ascend a ns → music_at ns (suc k) ≡ play (music_at ns k) (event_at ns (suc k))
-music_next a k ns h = ap (play quiet) (one_more a k ns h) ∙ play_append quiet (events_to k ns) (event_at ns (suc k))
+music_next a k ns h = ap (play quiet) (one_more a k ns h) ∙ play-append quiet (events_to k ns) (event_at ns (suc k))

@@ -18,7 +18,8 @@ use Rattle.retune_model.specs.Dumpable.{IsLivable}
 use Rattle.retune_model.proofs.Laws.{Laws}
 use Rattle.retune_model.proofs.Fronts.{all_weaker}
 use Rattle.retune_model.proofs.Served.{setup_parts}
-use Rattle.retune_model.proofs.Others.{filter_twice, filter_timed, none_pass, none_behind, let_through, Refuses, is_other, is_other_untuned, selects_refused, all_untuned, other_by_test, is_drum_on, drums_by_test, neither, selects_no_drums, not_nine, kept_by, every_same}
+use Rattle.retune_model.proofs.Lists.{filter_twice}
+use Rattle.retune_model.proofs.Others.{filter_timed, none_pass, none_behind, let_through, Refuses, is_other, is_other_untuned, selects_refused, all_untuned, other_by_test, is_drum_on, drums_by_test, neither, selects_no_drums, not_nine, kept_by, every_same}
 use Rattle.retune_model.specs.Ports.{port_of, all_zero, events_on}
 use Rattle.retune_model.proofs.Ported.{kept_block, kept_next, as_translated, passed}
 use Rattle.retune_model.proofs.OnePort.{told_live as port_told, livable_port}

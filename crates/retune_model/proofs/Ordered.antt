@@ -273,11 +273,3 @@ placed_behind z o table test c ns i l there h t =
     let same : get_or (drop c ns) j nobody ≡ get_or ns i nobody = get_or-drop c ns j nobody ∙ ap (λ k. get_or ns k nobody) at in
     subst (λ n. Has (pairs_of z o table (filter test (drop c ns))) (pair_of z o table n)) same
     (placed z o table test (drop c ns) j (omega (arith, e, l, there)) (ap test same ∙ h) (ap (λ n. is_some (target_of o table n)) same ∙ t))
-
-pub filter_twice : (f g : Note → Bool) (ns : List Note) → filter g (filter f ns) ≡ filter (λ n. f n && g n) ns
-filter_twice f g [] = refl
-filter_twice f g (n ∷ ns) = pick (f n) (filter_twice f g ns)
-  where
-    pick : (a : Bool) → filter g (filter f ns) ≡ filter (λ n. f n && g n) ns → filter g (cond a (n ∷ filter f ns) (filter f ns)) ≡ cond (a && g n) (n ∷ filter (λ n. f n && g n) ns) (filter (λ n. f n && g n) ns)
-    pick true r = ap (λ xs. cond (g n) (n ∷ xs) xs) r
-    pick false r = r

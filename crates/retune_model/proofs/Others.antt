@@ -20,18 +20,11 @@ use Rattle.retune_model.specs.Blocks.{Group, Block, all_events, written}
 use Rattle.retune_model.specs.Routes.{Setup, sends, selects, setup_at, dump_before, dump_behind, dump_next, dump_block, dump_output}
 use Rattle.retune_model.specs.Dump.{has_note_on, dump_if, dump_setup, dumped}
 use Rattle.retune_model.specs.Dumpable.{IsDumpable}
+use Rattle.retune_model.proofs.Lists.{filter_twice}
 use Rattle.retune_model.proofs.Faulty.{each_event, placed_none}
 use Rattle.retune_model.proofs.Fronts.{all_weaker}
 use Rattle.retune_model.proofs.Ported.{kept_block, kept_next, as_translated, passed}
 use Rattle.retune_model.proofs.Served.{setup_parts}
-
-pub filter_twice : {A : Type 0} (f g : A → Bool) (xs : List A) → filter g (filter f xs) ≡ filter (λ x. f x && g x) xs
-filter_twice f g [] = refl
-filter_twice f g (x ∷ xs) = pick (f x) (filter_twice f g xs)
-  where
-    pick : (b : Bool) → filter g (filter f xs) ≡ filter (λ y. f y && g y) xs → filter g (cond b (x ∷ filter f xs) (filter f xs)) ≡ cond (b && g x) (x ∷ filter (λ y. f y && g y) xs) (filter (λ y. f y && g y) xs)
-    pick true h = ap (λ r. cond (g x) (x ∷ r) r) h
-    pick false h = h
 
 pub filter_timed : (g : Timed → Bool) (xs : List MidiEvent) → filter g (map timed xs) ≡ map timed (filter (λ e. g (timed e)) xs)
 filter_timed g [] = refl

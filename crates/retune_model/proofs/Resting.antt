@@ -17,7 +17,8 @@ use Rattle.midi_model.specs.MusicLaws.{Ages}
 use Rattle.retune_model.specs.Rests.{notes_at, nobody, past_at, lasts, holding, pairs_at, held_at, begun_at, holds_at, pair_of, pair_at, steps_of, began_at, AreAimed}
 use Rattle.retune_model.proofs.Timeline.{Timeline, count, note, count_le, ages, new, Holds, holds_parts, holds_from, new_holds, held_before, sounding_holds, silent_past, EndedBy, ended_by, lasts_without_tail, sounding_lasts, first_with_below}
 use Rattle.retune_model.proofs.Moments.{Timely, HasTarget, begun_to, timeline, pairs_begun_at, aimed_at}
-use Rattle.retune_model.proofs.Ordered.{pairs_ordered, ordered_distinct, Has, if_has, found_behind, placed_behind, filter_twice}
+use Rattle.retune_model.proofs.Lists.{filter_twice}
+use Rattle.retune_model.proofs.Ordered.{pairs_ordered, ordered_distinct, Has, if_has, found_behind, placed_behind}
 
 -- ---- the pair of a note stays
 named : ℕ → ℕ → Option BendTarget → Pair

@@ -11,6 +11,7 @@ use Rattle.midi_model.specs.Sysex.{Doing, Plays, Resets, Tunes, Nothing, doing}
 use Rattle.retune_model.specs.Ports.{Numbered, NamesNoOther, named_port, port_of, ports_after, ports_from, with_event, of_port_from}
 use Rattle.retune_model.specs.Blocks.{Group, Selects, Sends, events_of, all_events, Block, written}
 use Rattle.retune_model.specs.Routes.{translated, Setup, sends, selects, setup_at, dump_before, dump_behind, dump_block, Live, Told, change_due, live_before, live_block}
+use Rattle.retune_model.proofs.Fronts.{all_append}
 use Rattle.retune_model.specs.PortOutput.{through, kept_for, through_ports_from, IsBeside}
 
 -- ---- the events of a port, without positions
@@ -123,10 +124,6 @@ abbrev InTrack : ℕ → List Group → Type 0
 InTrack track [] = Unit {0}
 InTrack track (Selects t u c p ∷ gs) = (u ≡ track) × InTrack track gs
 InTrack track (Sends t u bytes ∷ gs) = (u ≡ track) × InTrack track gs
-
-all_append : (P : MidiEvent → Type 0) (xs ys : List MidiEvent) → AllByRecursion P xs → AllByRecursion P ys → AllByRecursion P (xs ++ ys)
-all_append P [] ys h k = k
-all_append P (x ∷ xs) ys h k = (h.0, all_append P xs ys h.1 k)
 
 in_append : (track : ℕ) (xs ys : List Group) → InTrack track xs → InTrack track ys → InTrack track (xs ++ ys)
 in_append track [] ys h k = k
