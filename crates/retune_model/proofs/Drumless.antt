@@ -1,7 +1,7 @@
 -- Messages on channel 10 change nothing on the other channels.
-use Rattle.std.proofs.Common.{◌≡◌, ◌≢◌, ℕ, zero, suc, ◌+◌, Bool, true, false, cond, not, ◌&&◌, ◌||◌, List, [], ◌∷◌, ◌++◌, Option, Some, None, refl, ap, sym, ◌∙◌, subst, map, filter, length, set, get_or, nat_eq, nat_le, nat_lt, ◌-◌, arith, is_some}
+use Rattle.std.proofs.Common.{◌≡◌, ◌≢◌, ℕ, zero, suc, ◌+◌, Bool, true, false, cond, not, ◌&&◌, ◌||◌, List, [], ◌∷◌, ◌++◌, Option, Some, None, refl, ap, sym, ◌∙◌, subst, map, length, set, get_or, nat_eq, nat_le, nat_lt, ◌-◌, arith, is_some}
 use Rattle.std.specs.Prelude.{unwrap_or}
-use Rattle.std.proofs.lemmas.Bool.{ne_eqb, eqb-true, eqb-false, not-false, both_ways}
+use Rattle.std.proofs.lemmas.Bool.{ne_eqb, eqb-true, eqb-false}
 use Rattle.std.proofs.lemmas.List.{append-nil, get_or-set_other}
 use Rattle.std.proofs.lemmas.List.Elements.{filter-append}
 use Rattle.mt_base.specs.declared.event.Msg.{Msg}
@@ -9,9 +9,9 @@ use Rattle.mt_base.specs.declared.event.Msg.TheVariants.{NoteOn, NoteOff, KeyPre
 use Rattle.mt_base.specs.Midi.{MidiWhat, Says, SysexOf, MetaOf, MidiEvent, channel_of}
 use Rattle.midi_model.specs.Sysex.{Doing, Plays, Resets, Tunes, Nothing, doing}
 use Rattle.midi_model.specs.Channel.{Channel, default_channel, control_of, apply, role, Role, Stored, EntryHigh, EntryLow, NrpnLow, NrpnHigh, RpnLow, RpnHigh, AllSoundOff, ResetControllers, AllNotesOff, Ignored, Target, Nowhere, TuningProgram, ZoneSize, Value, target}
-use Rattle.midi_model.specs.Zones.{Zones, master, governor, zones_with, bend_range_at, bend_ranges_from, bend_ranges_sized, bend_ranges}
+use Rattle.midi_model.specs.Zones.{Zones, governor, zones_with, bend_range_at, bend_ranges_from, bend_ranges}
 use Rattle.midi_model.specs.Notes.{Note, sounds, is_down, is_at, hears, is_pedal_down, ending, releasing, cut_off, release_key, with_pressure, sostenuto, without_pressure, end_all, release_all}
-use Rattle.midi_model.specs.Music.{Music, quiet, channel_at, asked, asked_by, asks, zones_after, channels_after, begun, notes_turned, notes_after, act, is_over, settle_note, settle, reset, advance, step, play}
+use Rattle.midi_model.specs.Music.{Music, channel_at, asked, asked_by, asks, zones_after, begun, notes_turned, notes_after, act, is_over, settle_note, settle, advance}
 use Rattle.midi_model.specs.MusicLaws.{EventsSettle}
 use Rattle.midi_model.specs.Tuning.{Tuning, untuned, selected_of, retuned, chosen, chosen_by, tuning_heard, tuning_after}
 use Rattle.midi_model.specs.Receiver.{Receiver, start, receive, receive_all, after}

@@ -1,5 +1,5 @@
 -- Two lists agree pairwise exactly where they agree at every place.
-use Rattle.std.proofs.Common.{ℕ, zero, suc, List, [], ◌∷◌, Option, Some, None}
+use Rattle.std.proofs.Common.{ℕ, zero, suc, List, [], ◌∷◌}
 use Rattle.retune_model.specs.PlaysTheSame.{Pairwise}
 use Rattle.retune_model.specs.Places.{AgreeAt}
 

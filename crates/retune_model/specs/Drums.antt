@@ -5,7 +5,7 @@ use Rattle.mt_base.specs.Midi.{MidiEvent}
 use Rattle.midi_model.specs.Notes.{Note}
 use Rattle.midi_model.specs.Music.{Music, channel_at}
 use Rattle.midi_model.specs.Tuning.{Tuning, selected_of}
-use Rattle.midi_model.specs.Receiver.{Receiver, after}
+use Rattle.midi_model.specs.Receiver.{after}
 use Rattle.retune_model.specs.Options.{is_drum_message}
 
 abbrev pub without_drums : List MidiEvent → List MidiEvent

@@ -1,13 +1,12 @@
 -- A receiver of octave tuning: besides what the receiver is, it has for each channel twelve values, one for each class of keys (MIDI
 -- Tuning Standard, scale/octave tuning, two-byte form, non real time; that a reset clears them is this project's profile).
-use Rattle.std.specs.Prelude.{ℕ, zero, suc, ◌+◌, ◌*◌, ◌-◌, ◌/◌, ◌%◌, ℤ, pos, ◌+ℤ◌, ◌-ℤ◌, ◌*ℤ◌, List, [], ◌∷◌, Bool, true, false, ◌&&◌, nat_eq, nat_le, if◌then◌else◌, Option, Some, None, length, get_or, replicate, drop, take}
-use Rattle.mt_base.specs.Midi.{MidiWhat, Says, SysexOf, MetaOf, MidiEvent}
+use Rattle.std.specs.Prelude.{ℕ, zero, suc, ◌+◌, ◌*◌, ◌-◌, ◌/◌, ◌%◌, ℤ, pos, ◌+ℤ◌, ◌-ℤ◌, ◌*ℤ◌, List, [], ◌∷◌, Bool, true, ◌&&◌, nat_eq, nat_le, if◌then◌else◌, Option, Some, None, length, get_or, replicate, take}
+use Rattle.mt_base.specs.Midi.{MidiWhat, SysexOf, MidiEvent}
 use Rattle.midi_model.specs.Sysex.{Doing, Resets, doing}
 use Rattle.midi_model.specs.Notes.{Note}
-use Rattle.midi_model.specs.Music.{quiet}
 use Rattle.midi_model.specs.Zones.{governor}
 use Rattle.midi_model.specs.Tuning.{selected_of}
-use Rattle.midi_model.specs.Receiver.{Receiver, after}
+use Rattle.midi_model.specs.Receiver.{after}
 use Rattle.midi_model.specs.Played.{played}
 use Rattle.retune_model.specs.PlaysTheSame.{Device}
 

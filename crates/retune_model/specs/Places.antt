@@ -1,10 +1,10 @@
 -- "Plays the same" and validity, place by place, and the first place at which one fails: for a checker of two files (this project's own).
 use Rattle.std.specs.Prelude.{◌≡◌, ◌<◌, ◌≤◌, ℕ, zero, suc, List, [], ◌∷◌, Bool, true, Option, Some, None}
 use Rattle.mt_base.specs.Midi.{MidiEvent}
-use Rattle.midi_model.specs.Notes.{Note, sounds}
+use Rattle.midi_model.specs.Notes.{sounds}
 use Rattle.retune_model.specs.Table.{Scaling}
 use Rattle.retune_model.specs.Options.{Options}
-use Rattle.retune_model.specs.PlaysTheSame.{Pairwise, until, at_tick, retuned_notes, IsSameNote, HasSameNotes, Device, HasSameSettings, IsInTune, HasSameSound, beginnings, BeginsAlike, BeginsTheSame}
+use Rattle.retune_model.specs.PlaysTheSame.{until, at_tick, retuned_notes, IsSameNote, HasSameNotes, Device, HasSameSettings, IsInTune, HasSameSound, beginnings, BeginsAlike, BeginsTheSame}
 use Rattle.retune_model.specs.Pairs.{Pair}
 use Rattle.retune_model.specs.Need.{IsValid}
 

@@ -1,5 +1,5 @@
 use Rattle.std.proofs.Common.{◌≡◌, true}
-use Rattle.midi_model.specs.Notes.{Note, sounds}
+use Rattle.midi_model.specs.Notes.{sounds}
 use Rattle.retune_model.specs.PlaysTheSame.{until, at_tick, retuned_notes, IsSameNote, HasSameSettings, IsInTune, SoundsTheSame, beginnings, BeginsAlike}
 use Rattle.retune_model.proofs.PlaceByPlace.{each_place, all_places, two_hold}
 use Rattle.retune_model.proofs.Receivers.{pairwise_weaker}
