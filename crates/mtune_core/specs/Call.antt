@@ -15,8 +15,8 @@ use Rattle.mtune_core.specs.Table.{IsScale, IsOneTable, scaling_of, TextCause, T
 
 -- ---- before the store
 
--- The words are those of a command. It is told of a scale, few enough terms of each key, a table and an input within their
--- limits, and this was made of them.
+-- What was made for a command: of a scale that has few enough terms, of one table of it, and of an input, none of them longer
+-- than its limit.
 pub record IsPrepared (o : Outside) (c : Command) (output report : List ℕ) : Type 0 where
   pub text : Content o c.scale text_limit
   pub entries : List Entry
@@ -36,7 +36,8 @@ pub record IsMade (o : Outside) (words : List (List ℕ)) : Type 0 where
 -- The work stopped at the scale; or at the input, once the scale had given a table.
 abbrev pub CommandCause : Command → Outside → Outside → Fault → Type 0
 CommandCause c before now fault = ContentCause Scale c.scale text_limit TextCause before now fault
-    ⊎ ((table : Targets) × TableFrom before c.scale table × ContentCause Input c.input input_limit (InputCause table) (after_load Scale before) now fault)
+    ⊎ ((table : Targets) × TableFrom before c.scale table
+    × ContentCause Input c.input input_limit (InputCause table) (after_load Scale before) now fault)
 
 -- ---- the call
 
@@ -44,22 +45,28 @@ CommandCause c before now fault = ContentCause Scale c.scale text_limit TextCaus
 abbrev pub after_loads : Outside → Outside
 after_loads o = after_load Input (after_load Scale o)
 
+-- and then the output was stored
+abbrev pub stored_for : (before : Outside) (words : List (List ℕ)) → IsMade before words → Outside
+stored_for before words m = after_store m.command.out m.output (after_loads before)
+
 -- After the loads the output was stored and the report was said, each once.
 abbrev pub IsDone : Outside → Outside → List (List ℕ) → Type 0
-IsDone before now words = (m : IsMade before words) × (now ≡ after_say m.report (after_store m.command.out m.output (after_loads before)))
+IsDone before now words = (m : IsMade before words) × (now ≡ after_say m.report (stored_for before words m))
 
 -- The fault ended the work, and nothing was done after it.
 abbrev pub IsStopped : Outside → Outside → List (List ℕ) → Fault → Type 0
 IsStopped before now words (Usage kind) = (kind ≡ 1) × (command_of words ≡ None) × (now ≡ before)
 IsStopped before now words Store = (m : IsMade before words) × AfterFailedStore m.command.out (after_loads before) now
-IsStopped before now words Say = (m : IsMade before words) × AfterFailedSay m.report (after_store m.command.out m.output (after_loads before)) now
+IsStopped before now words Say = (m : IsMade before words) × AfterFailedSay m.report (stored_for before words m) now
 IsStopped before now words fault = (c : Command) × (command_of words ≡ Some c) × CommandCause c before now fault
 
 -- The line of the fault was said, or that failed; after a failed say nothing more is said.
 abbrev pub IsTold : Outside → Outside → Fault → Type 0
 IsTold before now Say = now ≡ before
-IsTold before now fault = (now ≡ after_say (fault_line fault) before) ⊎ AfterFailedSay (fault_line fault) before now
+IsTold before now fault = (now ≡ after_say (fault_line fault) before)
+    ⊎ AfterFailedSay (fault_line fault) before now
 
 -- The fault ended the work, and then it was told.
 abbrev pub IsRefused : Outside → Outside → List (List ℕ) → Fault → Type 0
-IsRefused before now words fault = (stopped : Outside) × IsStopped before stopped words fault × IsTold stopped now fault
+IsRefused before now words fault = (stopped : Outside) × IsStopped before stopped words fault
+    × IsTold stopped now fault

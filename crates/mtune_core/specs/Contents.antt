@@ -18,12 +18,15 @@ At o name limit P = (content : Content o name limit) × P content.bytes
 -- The load of a content ended so: it failed, as it may where the name isn't held or the outside isn't steady; what is held is
 -- longer than the limit; or there was no memory for what is held and isn't longer.
 abbrev pub LoadCause : Which → List ℕ → ℕ → Outside → Outside → Fault → Type 0
-LoadCause which name limit before now (Load w) = (w ≡ which) × MayFail before name × (now ≡ after_failed_load which before)
-LoadCause which name limit before now (TooLong w) = (w ≡ which) × IsLongerThan before name limit × (now ≡ after_load which before)
+LoadCause which name limit before now (Load w) = (w ≡ which) × MayFail before name
+    × (now ≡ after_failed_load which before)
+LoadCause which name limit before now (TooLong w) = (w ≡ which) × IsLongerThan before name limit
+    × (now ≡ after_load which before)
 LoadCause which name limit before now Memory = IsWithin before name limit × (now ≡ after_load which before)
 LoadCause which name limit before now _ = ⊥
 
 -- The load ended so, or the content that was loaded has such a fault.
-abbrev pub ContentCause : Which → List ℕ → ℕ → (List ℕ → Fault → Type 0) → Outside → Outside → Fault → Type 0
+abbrev pub ContentCause : Which → List ℕ → ℕ → (List ℕ → Fault → Type 0)
+    → Outside → Outside → Fault → Type 0
 ContentCause which name limit IsFault before now fault = LoadCause which name limit before now fault
     ⊎ (At before name limit (λ bytes. IsFault bytes fault) × (now ≡ after_load which before))

@@ -18,7 +18,11 @@ use Rattle.mtune_core.specs.Putting.{written_from}
 
 -- the same format, division and number of tracks, with other events
 abbrev pub with_events : MidiFile → List MidiEvent → MidiFile
-with_events source es = record { format = source.format; division = source.division; tracks = distributed (length source.tracks) es }
+with_events source es = record {
+  format = source.format;
+  division = source.division;
+  tracks = distributed (length source.tracks) es;
+}
 
 -- the output of a source with a setup
 abbrev pub output_file : Setup → MidiFile → MidiFile
@@ -45,4 +49,6 @@ AreShort source = (bytes : List ℕ) × Spells bytes source × (length bytes ≤
 
 -- of the retuned notes, and of the channels that they are on
 abbrev pub report_of : List MidiEvent → List ℕ
-report_of es = report_text (count_by (λ e. begins_note (is_part dump_options) e.what) es) (length (sounding_parts dump_options es))
+report_of es = report_text
+    (count_by (λ e. begins_note (is_part dump_options) e.what) es)
+    (length (sounding_parts dump_options es))

@@ -23,14 +23,17 @@ abbrev pub AreTaken : MidiFile → Type 0
 AreTaken source = AllByRecursion (λ e. is_taken e.what ≡ true) (merged source)
 
 abbrev pub HasUntaken : MidiFile → Type 0
-HasUntaken source = (front : List MidiEvent) × (e : MidiEvent) × (back : List MidiEvent) × (merged source ≡ front ++ e ∷ back) × (is_taken e.what ≡ false)
+HasUntaken source = (front : List MidiEvent) × (e : MidiEvent) × (back : List MidiEvent)
+    × (merged source ≡ front ++ e ∷ back) × (is_taken e.what ≡ false)
 
 -- each key that a retuned part has a note on of has a target; some such key has none
 abbrev pub HaveTargets : Targets → MidiFile → Type 0
-HaveTargets table source = (key : ℕ) → key < 128 → uses_key key (merged source) ≡ true → is_some (tuning_at table key) ≡ true
+HaveTargets table source = (key : ℕ) → key < 128 → uses_key key (merged source) ≡ true
+    → is_some (tuning_at table key) ≡ true
 
 abbrev pub HasUnplayed : Targets → MidiFile → Type 0
-HasUnplayed table source = (key : ℕ) × (key < 128) × (uses_key key (merged source) ≡ true) × (tuning_at table key ≡ None)
+HasUnplayed table source = (key : ℕ) × (key < 128) × (uses_key key (merged source) ≡ true)
+    × (tuning_at table key ≡ None)
 
 -- the first fault of the bytes; an event that isn't taken yet; a key that the device can't play
 abbrev pub InputCause : Targets → List ℕ → Fault → Type 0

@@ -35,18 +35,21 @@ table_fn t key onset = table_of t key
 
 -- a table of the scale that a name has
 abbrev pub TableFrom : Outside → List ℕ → Targets → Type 0
-TableFrom o name table = At o name text_limit (λ text. (entries : List Entry) × IsScale text entries × IsOneTable (scaling_of entries) table)
+TableFrom o name table = At o name text_limit
+    (λ text. (entries : List Entry) × IsScale text entries × IsOneTable (scaling_of entries) table)
 
 -- ---- what goes wrong
 
 -- The reference key, 69, is always mapped; so it is a key that has more than 1,700 terms, the least one.
 abbrev pub IsTuneFault : List Entry → Fault → Type 0
-IsTuneFault scale (TooManyPeriods key) = (key ≤ 127) × (1700 < term_count scale a440 key) × ((k : ℕ) → k < key → term_count scale a440 k ≤ 1700)
+IsTuneFault scale (TooManyPeriods key) = (key ≤ 127) × (1700 < term_count scale a440 key)
+    × ((k : ℕ) → k < key → term_count scale a440 k ≤ 1700)
 IsTuneFault scale _ = ⊥
 
 -- the first fault of the text; or a scale with too many terms
 abbrev pub TextCause : List ℕ → Fault → Type 0
 TextCause text (Scl line kind) = ScaleFault (lines_of text) line kind
-TextCause text (TooManyPeriods key) = (entries : List Entry) × ScaleText (lines_of text) entries × IsTuneFault entries (TooManyPeriods key)
+TextCause text (TooManyPeriods key) = (entries : List Entry) × ScaleText (lines_of text) entries
+    × IsTuneFault entries (TooManyPeriods key)
 TextCause text Memory = Unit {0}
 TextCause text _ = ⊥

@@ -1,13 +1,15 @@
 use super::{E12, ONE_NOTE, WORDS, check, files, one_note_output};
 use crate::{Fault, run};
 use mtune_files::{MemFiles, Which};
+use std::alloc::Global;
+use std::process::Abort;
 use std::test::Fail;
 
 fn load(which: Which) -> Fault {
     Fault::Load { which }
 }
 
-/// The counts of failed loads of the scale, of the mapping and of the input, of stores, and of says.
+/// The counts of failed loads of the scale, of the mapping and of the input, of stores, of says.
 fn counts(files: &MemFiles) -> [u64; 5] {
     [
         files.count(0),
@@ -18,34 +20,72 @@ fn counts(files: &MemFiles) -> [u64; 5] {
     ]
 }
 
+/// Which calls fail, each after so many bytes; the fault, what is said, what is held at the output's
+/// name, and the counts.
+type Case<'a> = (&'a [(u32, u32)], Fault, &'a str, &'a [u8], [u64; 5]);
+
+/// The calls load the scale, load the input, store, and say; where one fails, the next says the line
+/// of the fault.
+fn check_failing(rt: &impl Abort, alloc: Global, case: Case<'_>) -> Result<(), Fail> {
+    let (calls, fault, said, held, counted) = case;
+    let mut files = files(alloc, E12, &ONE_NOTE)?;
+    files.add("out.mid", b"old")?;
+    for (call, bytes) in calls {
+        files.fail_after(*call, *bytes)?;
+    }
+    let outcome = run(alloc, WORDS.as_slice(), &mut files);
+    check(rt, &files, outcome, Some(fault), 3, said, Some(held));
+    assert_eq!(rt; counts(&files), counted);
+    Ok(())
+}
+
 #[test]
-fn calls_that_fail(rt: HostRuntime) -> Result<(), Fail> {
-    let alloc = rt.alloc();
-    let output = one_note_output(alloc)?;
-    let whole = output.as_slice();
-    let old = b"old".as_slice();
+fn loads_that_fail(rt: HostRuntime) -> Result<(), Fail> {
     let scale = "mtune: cannot load scale\n";
     let input = "mtune: cannot load input\n";
-    let store = "mtune: cannot store\n";
-    // The calls load the scale, load the input, store, and say; where a call fails, the next says the
-    // fault's line. Each fails after so many bytes; a failed store leaves them at the output's name.
-    let cases: [(&[(u32, u32)], Fault, &str, &[u8], [u64; 5]); 9] = [
-        (&[(1, 0)], load(Which::Scale), scale, old, [1, 0, 0, 0, 0]),
+    let cases: [Case<'_>; 4] = [
+        (
+            &[(1, 0)],
+            load(Which::Scale),
+            scale,
+            b"old",
+            [1, 0, 0, 0, 0],
+        ),
         (
             &[(1, 9), (2, 0)],
             load(Which::Scale),
             "",
-            old,
+            b"old",
             [1, 0, 0, 0, 1],
         ),
-        (&[(2, 0)], load(Which::Input), input, old, [0, 0, 1, 0, 0]),
+        (
+            &[(2, 0)],
+            load(Which::Input),
+            input,
+            b"old",
+            [0, 0, 1, 0, 0],
+        ),
         (
             &[(2, 0), (3, 5)],
             load(Which::Input),
             "mtune",
-            old,
+            b"old",
             [0, 0, 1, 0, 1],
         ),
+    ];
+    for case in cases {
+        check_failing(&rt, rt.alloc(), case)?;
+    }
+    Ok(())
+}
+
+#[test]
+fn stores_and_says_that_fail(rt: HostRuntime) -> Result<(), Fail> {
+    let output = one_note_output(rt.alloc())?;
+    let whole = output.as_slice();
+    let store = "mtune: cannot store\n";
+    // a failed store leaves the first bytes; nothing is said after a report that failed
+    let cases: [Case<'_>; 5] = [
         (&[(3, 0)], Fault::Store, store, b"", [0, 0, 0, 1, 0]),
         (
             &[(3, 10)],
@@ -61,19 +101,11 @@ fn calls_that_fail(rt: HostRuntime) -> Result<(), Fail> {
             whole,
             [0, 0, 0, 1, 1],
         ),
-        // nothing is said after a report that failed
         (&[(4, 0), (5, 9)], Fault::Say, "", whole, [0, 0, 0, 0, 1]),
         (&[(4, 3)], Fault::Say, "rou", whole, [0, 0, 0, 0, 1]),
     ];
-    for (calls, fault, said, held, counted) in cases {
-        let mut files = files(alloc, E12, &ONE_NOTE)?;
-        files.add("out.mid", old)?;
-        for (call, bytes) in calls {
-            files.fail_after(*call, *bytes)?;
-        }
-        let outcome = run(alloc, WORDS.as_slice(), &mut files);
-        check(&rt, &files, outcome, Some(fault), 3, said, Some(held));
-        assert_eq!(rt; counts(&files), counted);
+    for case in cases {
+        check_failing(&rt, rt.alloc(), case)?;
     }
     Ok(())
 }
