@@ -49,7 +49,13 @@ FailsToLoad m name = IsSome (next_failure m) ⊎ (content_at (names_of m) name �
 -- ---- what is told
 
 abbrev pub outside_of : MemFiles → Outside
-outside_of m = record { held = Some (names_of m); said = Some m.told.items; faults = m.faults; calls = m.calls; steady = none_of (settings_of m) }
+outside_of m = record {
+  held = Some (names_of m);
+  said = Some m.told.items;
+  faults = m.faults;
+  calls = m.calls;
+  steady = none_of (settings_of m);
+}
 
 -- A call that is set to fail after so many bytes leaves these, where there was memory for them.
 abbrev pub Leaves : {A : Type 0} → Option ℕ → (ℕ → A) → A → A → Type 0

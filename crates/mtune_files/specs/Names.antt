@@ -29,11 +29,13 @@ appended said text = option_map (λ t. t ++ text) said
 -- at each other name the same is held, and it is told as before what is held
 abbrev pub IsSameBut : List ℕ → Option Held → Option Held → Type 0
 IsSameBut name None None = Unit {0}
-IsSameBut name (Some h) (Some k) = (other : List ℕ) → (other ≡ name → ⊥) → content_at k other ≡ content_at h other
+IsSameBut name (Some h) (Some k) = (other : List ℕ) → (other ≡ name → ⊥)
+    → content_at k other ≡ content_at h other
 IsSameBut name _ _ = ⊥
 
 -- a front of the text was said, and it is told as before what was said
 abbrev pub AppendsFront : List ℕ → Option (List ℕ) → Option (List ℕ) → Type 0
 AppendsFront text None None = Unit {0}
-AppendsFront text (Some before) (Some now) = (front : List ℕ) × (rest : List ℕ) × (text ≡ front ++ rest) × (now ≡ before ++ front)
+AppendsFront text (Some before) (Some now) = (front : List ℕ) × (rest : List ℕ)
+    × (text ≡ front ++ rest) × (now ≡ before ++ front)
 AppendsFront text _ _ = ⊥

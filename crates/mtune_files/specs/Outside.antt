@@ -6,8 +6,8 @@ use Rattle.mtune_files.specs.Names.{Held, content_at, stored, appended, IsSameBu
 use Rattle.mtune_files.specs.declared.counts.Counts.{Counts}
 use Rattle.mtune_files.specs.declared.which.Which.{Which}
 
--- What is held under names and what was said, each where it is told; how many calls of each kind failed, and how many were
--- made; and whether a name that is held is always loaded.
+-- What is held under names and what was said, each where it is told; how many calls of each kind
+-- failed, and how many were made; and whether a name that is held is always loaded.
 pub record Outside : Type 0 where
   pub held : Option Held
   pub said : Option (List ℕ)
@@ -52,16 +52,26 @@ abbrev pub after_load : Which → Outside → Outside
 after_load which o = record o { calls = one_load which o.calls }
 
 abbrev pub after_failed_load : Which → Outside → Outside
-after_failed_load which o = record o { calls = one_load which o.calls; faults = one_load which o.faults }
+after_failed_load which o = record o {
+  calls = one_load which o.calls;
+  faults = one_load which o.faults;
+}
 
 -- only stored
 abbrev pub after_store : List ℕ → List ℕ → Outside → Outside
-after_store name content o = record o { calls = one_store o.calls; held = stored o.held name content }
+after_store name content o = record o {
+  calls = one_store o.calls;
+  held = stored o.held name content;
+}
 
 -- What is held at the name then isn't known. All other names hold what they held.
 pub record AfterFailedStore (name : List ℕ) (before now : Outside) : Type 0 where
   pub others : IsSameBut name before.held now.held
-  pub only : now ≡ record before { calls = one_store before.calls; faults = one_store before.faults; held = now.held }
+  pub only : now ≡ record before {
+    calls = one_store before.calls;
+    faults = one_store before.faults;
+    held = now.held;
+  }
 
 -- only said
 abbrev pub after_say : List ℕ → Outside → Outside
@@ -70,4 +80,8 @@ after_say text o = record o { calls = one_say o.calls; said = appended o.said te
 -- A front of the text was said then.
 pub record AfterFailedSay (text : List ℕ) (before now : Outside) : Type 0 where
   pub front : AppendsFront text before.said now.said
-  pub only : now ≡ record before { calls = one_say before.calls; faults = one_say before.faults; said = now.said }
+  pub only : now ≡ record before {
+    calls = one_say before.calls;
+    faults = one_say before.faults;
+    said = now.said;
+  }
