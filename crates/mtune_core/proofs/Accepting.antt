@@ -22,7 +22,7 @@ use Rattle.mtune_files.specs.declared.counts.Counts.{Counts}
 use Rattle.mtune_files.specs.declared.which.Which.{Which}
 use Rattle.mtune_files.specs.declared.which.Which.TheVariants.{Scale, Map, Input}
 use Rattle.mtune_core.specs.declared.outcome.Fault.{Fault}
-use Rattle.mtune_core.specs.declared.outcome.Fault.TheVariants.{Usage, NotYet, Load, TooLong, Scl, ReferenceUnmapped, TooManyPeriods, Smf, Store, Say, Memory}
+use Rattle.mtune_core.specs.declared.outcome.Fault.TheVariants.{Usage, NotYet, Load, TooLong, Scl, TooManyPeriods, Smf, Store, Say, Memory}
 use Rattle.mtune_core.specs.Accepted.{IsAccepted, NoneRose}
 use Rattle.mtune_core.specs.Call.{CommandCause, IsRefused}
 use Rattle.mtune_core.specs.Command.{Command, command_of}
@@ -117,42 +117,21 @@ load_free : (which : Which) (name : List ℕ) (limit : ℕ) (before mid : Outsid
     → LoadCause which name limit before mid fault → fault ≡ Memory
 load_free which name limit before mid now names a (Load w) told mine short none s h = absurd (load_rose which before.faults mid.faults now none (ap (λ (o : Outside). o.faults) h.2) s)
 load_free which name limit before mid now names a (TooLong w) told mine short none s h = absurd (not_longer before.held names name a limit told mine short h.1)
-load_free which name limit before mid now names a (Scl line kind) told mine short none s h = absurd h
-load_free which name limit before mid now names a (TooManyPeriods key) told mine short none s h = absurd h
-load_free which name limit before mid now names a (ReferenceUnmapped key) told mine short none s h = absurd h
-load_free which name limit before mid now names a (Smf offset kind) told mine short none s h = absurd h
-load_free which name limit before mid now names a (NotYet kind) told mine short none s h = absurd h
-load_free which name limit before mid now names a (Usage kind) told mine short none s h = absurd h
-load_free which name limit before mid now names a Store told mine short none s h = absurd h
-load_free which name limit before mid now names a Say told mine short none s h = absurd h
 load_free which name limit before mid now names a Memory told mine short none s h = refl
+load_free which name limit before mid now names a fault told mine short none s h = absurd h
 
 text_free : OneAnswer → (o : Outside) (words : List (List ℕ)) (a : IsAccepted o words) (fault : Fault) → TextCause a.text fault → fault ≡ Memory
 text_free laws o words a (Scl line kind) h = absurd (laws.no_scale_fault (lines_of a.text) a.entries line kind a.is_scale.read h)
 text_free laws o words a (TooManyPeriods key) h = absurd (too_many laws o words a key h)
-text_free laws o words a (Load w) h = absurd h
-text_free laws o words a (TooLong w) h = absurd h
-text_free laws o words a (ReferenceUnmapped key) h = absurd h
-text_free laws o words a (Smf offset kind) h = absurd h
-text_free laws o words a (NotYet kind) h = absurd h
-text_free laws o words a (Usage kind) h = absurd h
-text_free laws o words a Store h = absurd h
-text_free laws o words a Say h = absurd h
 text_free laws o words a Memory h = refl
+text_free laws o words a fault h = absurd h
 
 input_free : OneAnswer → (o : Outside) (words : List (List ℕ)) (a : IsAccepted o words) (table : Targets) → IsTable (scaling_of a.entries) table
     → (fault : Fault) → InputCause table a.input fault → fault ≡ Memory
 input_free laws o words a table is_table (Smf offset kind) h = absurd (laws.no_file_fault a.input a.source offset kind a.spelled h)
 input_free laws o words a table is_table (NotYet kind) h = absurd (not_yet laws o words a table kind is_table h)
-input_free laws o words a table is_table (Load w) h = absurd h
-input_free laws o words a table is_table (TooLong w) h = absurd h
-input_free laws o words a table is_table (Scl line kind) h = absurd h
-input_free laws o words a table is_table (ReferenceUnmapped key) h = absurd h
-input_free laws o words a table is_table (TooManyPeriods key) h = absurd h
-input_free laws o words a table is_table (Usage kind) h = absurd h
-input_free laws o words a table is_table Store h = absurd h
-input_free laws o words a table is_table Say h = absurd h
 input_free laws o words a table is_table Memory h = refl
+input_free laws o words a table is_table fault h = absurd h
 
 no_cause : OneAnswer → (before mid : Outside) (words : List (List ℕ)) (a : IsAccepted before words) (now : Counts) → NoneRose before.faults now → MaySay mid.faults now
     → (fault : Fault) → CommandCause a.command before mid fault → fault ≡ Memory
@@ -182,18 +161,6 @@ accepted_is_not_refused laws before now words Store a none h =
     absurd (store_rose before.faults h.0.faults now.faults none (ap (λ (o : Outside). o.faults) h.1.1.only) (told_faults (fault_line Store) h.0 now h.2))
 accepted_is_not_refused laws before now words Say a none h =
     absurd (say_rose before.faults h.0.faults now.faults none (ap (λ (o : Outside). o.faults) h.1.1.only) (ap (λ (o : Outside). o.faults) h.2))
-accepted_is_not_refused laws before now words (NotYet kind) a none h =
-    its_cause laws before h.0 words a now.faults none (told_faults (fault_line (NotYet kind)) h.0 now h.2) (NotYet kind) h.1
-accepted_is_not_refused laws before now words (Load which) a none h =
-    its_cause laws before h.0 words a now.faults none (told_faults (fault_line (Load which)) h.0 now h.2) (Load which) h.1
-accepted_is_not_refused laws before now words (TooLong which) a none h =
-    its_cause laws before h.0 words a now.faults none (told_faults (fault_line (TooLong which)) h.0 now h.2) (TooLong which) h.1
-accepted_is_not_refused laws before now words (Scl line kind) a none h =
-    its_cause laws before h.0 words a now.faults none (told_faults (fault_line (Scl line kind)) h.0 now h.2) (Scl line kind) h.1
-accepted_is_not_refused laws before now words (ReferenceUnmapped key) a none h =
-    its_cause laws before h.0 words a now.faults none (told_faults (fault_line (ReferenceUnmapped key)) h.0 now h.2) (ReferenceUnmapped key) h.1
-accepted_is_not_refused laws before now words (TooManyPeriods key) a none h =
-    its_cause laws before h.0 words a now.faults none (told_faults (fault_line (TooManyPeriods key)) h.0 now h.2) (TooManyPeriods key) h.1
-accepted_is_not_refused laws before now words (Smf offset kind) a none h =
-    its_cause laws before h.0 words a now.faults none (told_faults (fault_line (Smf offset kind)) h.0 now h.2) (Smf offset kind) h.1
 accepted_is_not_refused laws before now words Memory a none h = refl
+accepted_is_not_refused laws before now words fault a none h =
+    its_cause laws before h.0 words a now.faults none (told_faults (fault_line fault) h.0 now h.2) fault h.1

@@ -12,7 +12,7 @@ use Rattle.key_pitch.specs.Aims.{table_of}
 use Rattle.key_pitch.specs.declared.table.KeyTable.{KeyTable}
 use Rattle.mtune_core.specs.declared.retuning.Made.{Made}
 use Rattle.mtune_core.specs.declared.outcome.Fault.{Fault}
-use Rattle.mtune_core.specs.declared.outcome.Fault.TheVariants.{Usage, NotYet, Load, TooLong, Scl, ReferenceUnmapped, TooManyPeriods, Smf, Store, Say, Memory}
+use Rattle.mtune_core.specs.declared.outcome.Fault.TheVariants.{NotYet}
 use Rattle.mtune_core.specs.declared.survey.Survey.{Survey}
 use Rattle.mtune_core.specs.Output.{dumped_file, report_of}
 use Rattle.mtune_core.specs.Survey.{ArePlayed, IsRefusal, survey_of}
@@ -43,16 +43,7 @@ input_refused table input source targets (NotYet kind) spelled valid each h = (
     )
   ],
 )
-input_refused table input source targets (Usage kind) spelled valid each h = absurd h
-input_refused table input source targets (Load which) spelled valid each h = absurd h
-input_refused table input source targets (TooLong which) spelled valid each h = absurd h
-input_refused table input source targets (Scl line kind) spelled valid each h = absurd h
-input_refused table input source targets (ReferenceUnmapped key) spelled valid each h = absurd h
-input_refused table input source targets (TooManyPeriods key) spelled valid each h = absurd h
-input_refused table input source targets (Smf offset kind) spelled valid each h = absurd h
-input_refused table input source targets Store spelled valid each h = absurd h
-input_refused table input source targets Say spelled valid each h = absurd h
-input_refused table input source targets Memory spelled valid each h = absurd h
+input_refused table input source targets fault spelled valid each h = absurd h
 
 -- a key that is used has a target
 each_played : (table : KeyTable) (source : MidiFile) (targets : List (Option ℕ)) (found : Survey) → AllByRecursion (λ e. IsValidEvent e) (merged source) → AreTargetsOf table targets

@@ -1,7 +1,7 @@
 use Rattle.std.proofs.Common.{◌≡◌, ℕ, List, Some, sym, ap, subst, ◌∙◌, inl, inr}
 use Rattle.mtune_files.specs.Outside.{Outside, after_store, AfterFailedStore, after_say, AfterFailedSay}
 use Rattle.mtune_core.specs.declared.outcome.Fault.{Fault}
-use Rattle.mtune_core.specs.declared.outcome.Fault.TheVariants.{Usage, NotYet, Load, TooLong, Scl, ReferenceUnmapped, TooManyPeriods, Smf, Store, Say, Memory}
+use Rattle.mtune_core.specs.declared.outcome.Fault.TheVariants.{Usage, Store, Say}
 use Rattle.mtune_core.specs.Call.{IsMade, CommandCause, IsStopped, after_loads}
 use Rattle.mtune_core.specs.Command.{Command, command_of, texts, view_command}
 use Rattle.mtune_core.proofs.Stages.{handed_on}
@@ -10,14 +10,6 @@ use Rattle.mtune_core.proofs.call.perform.Goals as goal
 
 -- the cause of a command is that of the words
 stopped : (o now : Outside) (words : List (List ℕ)) (c : Command) (fault : Fault) → command_of words ≡ Some c → CommandCause c o now fault → IsStopped o now words fault
-stopped o now words c (NotYet kind) e h = (c, e, h)
-stopped o now words c (Load which) e h = (c, e, h)
-stopped o now words c (TooLong which) e h = (c, e, h)
-stopped o now words c (Scl line kind) e h = (c, e, h)
-stopped o now words c (ReferenceUnmapped key) e h = (c, e, h)
-stopped o now words c (TooManyPeriods key) e h = (c, e, h)
-stopped o now words c (Smf offset kind) e h = (c, e, h)
-stopped o now words c Memory e h = (c, e, h)
 stopped o now words c (Usage kind) e (inl (inl h)) = absurd h
 stopped o now words c (Usage kind) e (inl (inr h)) = absurd h.0.1
 stopped o now words c (Usage kind) e (inr h) = elim h.2 [ inl x ↦ absurd x | inr x ↦ absurd x.0.1 ]
@@ -27,6 +19,7 @@ stopped o now words c Store e (inr h) = elim h.2 [ inl x ↦ absurd x | inr x �
 stopped o now words c Say e (inl (inl h)) = absurd h
 stopped o now words c Say e (inl (inr h)) = absurd h.0.1
 stopped o now words c Say e (inr h) = elim h.2 [ inl x ↦ absurd x | inr x ↦ absurd x.0.1 ]
+stopped o now words c fault e h = (c, e, h)
 
 pub returns-in_err-made-clause-stopped : goal.returns-in_err-made-clause-stopped
 returns-in_err-made-clause-stopped g c = handed_on c.from_residual.result c.in_err-made.field-0.0 _ c.from_residual.ensures.1

@@ -7,7 +7,7 @@ use Rattle.retune_model.specs.Table.{AreFewTerms}
 use Rattle.key_pitch.specs.declared.table.KeyTable.{KeyTable}
 use Rattle.mtune_files.specs.declared.which.Which.TheVariants.{Scale}
 use Rattle.mtune_core.specs.declared.outcome.Fault.{Fault}
-use Rattle.mtune_core.specs.declared.outcome.Fault.TheVariants.{Usage, NotYet, Load, TooLong, Scl, ReferenceUnmapped, TooManyPeriods, Smf, Store, Say, Memory}
+use Rattle.mtune_core.specs.declared.outcome.Fault.TheVariants.{TooManyPeriods}
 use Rattle.mtune_core.specs.Limits.{text_limit}
 use Rattle.mtune_core.specs.Table.{IsScale, IsOneTable, IsTuneFault, TextCause, scaling_of, table_fn}
 use Rattle.mtune_core.proofs.Stages.{handed_on, made_at, fault_at, faults_at}
@@ -26,16 +26,7 @@ its_fault : (r : Result KeyTable Fault) (text : List ℕ) (entries : List Entry)
     → IfErr r (λ e. TextCause text e)
 its_fault (Ok t) text entries read h = tt
 its_fault (Err (TooManyPeriods key)) text entries read h = (entries, read, h)
-its_fault (Err (ReferenceUnmapped key)) text entries read h = absurd h
-its_fault (Err (Usage kind)) text entries read h = absurd h
-its_fault (Err (NotYet kind)) text entries read h = absurd h
-its_fault (Err (Load which)) text entries read h = absurd h
-its_fault (Err (TooLong which)) text entries read h = absurd h
-its_fault (Err (Scl line kind)) text entries read h = absurd h
-its_fault (Err (Smf offset kind)) text entries read h = absurd h
-its_fault (Err Store) text entries read h = absurd h
-its_fault (Err Say) text entries read h = absurd h
-its_fault (Err Memory) text entries read h = absurd h
+its_fault (Err fault) text entries read h = absurd h
 
 pub returns-in_err-scale-clause-cause : goal.returns-in_err-scale-clause-cause
 returns-in_err-scale-clause-cause g c = handed_on c.from_residual-in_err-scale.result c.in_err-scale.field-0.0 _ c.from_residual-in_err-scale.ensures.1
