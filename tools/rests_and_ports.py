@@ -473,7 +473,7 @@ def random_source(draw):
 
 def main():
     parser = argparse.ArgumentParser(description=__doc__, formatter_class=argparse.RawDescriptionHelpFormatter)
-    parser.add_argument("--sources", type=int, default=300)
+    parser.add_argument("--sources", type=int, default=100)
     parser.add_argument("--seed", type=int, default=1)
     parser.add_argument("--spoil", choices=["reset", "left", "held", "choice"])
     words = parser.parse_args()
