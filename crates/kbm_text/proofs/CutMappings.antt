@@ -1,5 +1,5 @@
 -- A mapping text that is cut before its seventh field.
-use Rattle.std.proofs.Common.{◌≡◌, ℕ, zero, suc, ◌+◌, ◌<◌, ◌≤◌, List, [], ◌∷◌, take, refl, sym, subst, inl, inr, arith}
+use Rattle.std.proofs.Common.{ℕ, zero, suc, ◌+◌, ◌<◌, ◌≤◌, List, ◌∷◌, take, refl, sym, subst, inr, arith}
 use Rattle.scala_lines.specs.Lines.{Numbered, content}
 use Rattle.scala_lines.specs.Cuts.{CutLeavesFew}
 use Rattle.kbm_text.specs.declared.fault.KbmKind.TheVariants.{MissingField}

@@ -2,7 +2,7 @@
 use Rattle.std.proofs.Common.{◌≡◌, ℕ, zero, suc, ◌+◌, ◌<◌, List, [], ◌∷◌, ◌++◌, Option, None, Result, Ok, Err, refl, sym, ap, ◌∙◌, arith, append_assoc, append-nil, add-one}
 use Rattle.scala_lines.specs.Lines.{Numbered}
 use Rattle.kbm_text.specs.declared.fault.KbmKind.{KbmKind}
-use Rattle.scala_lines.specs.Reading.{Fault, ◌>>=◌, fault, on_line}
+use Rattle.scala_lines.specs.Reading.{Fault, ◌>>=◌, fault}
 use Rattle.kbm_text.specs.Reading.{entries_at}
 use Rattle.kbm_text.specs.Field.{entry_of}
 

@@ -1,6 +1,5 @@
 -- Reading a mapping text line by line, with the first fault that is met.
-use Rattle.std.specs.Prelude.{ℕ, zero, suc, ◌+◌, ◌==◌, List, [], ◌∷◌, length, Option, None, Result, Ok, Err, if◌then◌else◌}
-use Rattle.scala_lines.specs.Characters.{after_blanks}
+use Rattle.std.specs.Prelude.{ℕ, zero, suc, ◌+◌, List, [], ◌∷◌, length, Option, None, Result, Ok}
 use Rattle.scala_lines.specs.Lines.{Numbered, content, entry_lines}
 use Rattle.scala_lines.specs.Reading.{Fault, fault, ◌>>=◌, on_line}
 use Rattle.kbm_text.specs.declared.fault.KbmKind.{KbmKind}

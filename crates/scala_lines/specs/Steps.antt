@@ -1,7 +1,7 @@
 -- Steps of reading, and which way they went: for the proofs of readers. What a clause can't say of every type stands here.
 use Rattle.std.specs.Prelude.{ℕ, ◌≡◌, ◌⊎◌, Bool, true, false, cond, Option, Some, None, Result, Ok, Err, IfOk, IfErr, refl}
 use Rattle.std.proofs.Common.{sym, ap, subst, ◌∙◌, inl, inr}
-use Rattle.scala_lines.specs.Reading.{Fault, fault, ◌>>=◌, on_line, HasOneAnswer, Fails, Gives, Answers, IsAt, AnswersFault, IsFaultOf}
+use Rattle.scala_lines.specs.Reading.{Fault, ◌>>=◌, on_line, HasOneAnswer, Fails, Gives, Answers, IsAt, AnswersFault, IsFaultOf}
 
 -- which way a test went
 pub chosen : {A : Type 0} (b : Bool) (x y z : A) → cond b x y ≡ z → ((b ≡ true) × (x ≡ z)) ⊎ ((b ≡ false) × (y ≡ z))

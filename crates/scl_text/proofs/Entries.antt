@@ -4,7 +4,7 @@ use Rattle.scl_text.specs.declared.fault.SclKind.{SclKind}
 use Rattle.scl_text.specs.declared.fault.SclKind.TheVariants.{MissingPitch}
 use Rattle.scala_lines.specs.Lines.{Numbered}
 use Rattle.scl_text.specs.declared.entry.Entry.{Entry}
-use Rattle.scala_lines.specs.Reading.{Fault, ◌>>=◌, fault, on_line}
+use Rattle.scala_lines.specs.Reading.{Fault, ◌>>=◌, fault}
 use Rattle.scl_text.specs.Reading.{entries_at}
 use Rattle.scl_text.specs.Pitch.{pitch_of}
 
