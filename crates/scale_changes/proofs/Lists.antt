@@ -1,5 +1,5 @@
 -- A list that is read is a list of changes, and a list of changes is read; each text has one or a first fault.
-use Rattle.std.proofs.Common.{◌≡◌, ℕ, zero, suc, ◌+◌, ◌<◌, ◌≤◌, List, [], ◌∷◌, ◌++◌, length, Result, Ok, Err, refl, sym, ap, subst, ◌∙◌, inl, inr, arith}
+use Rattle.std.proofs.Common.{◌≡◌, ℕ, zero, suc, ◌≤◌, List, [], ◌∷◌, ◌++◌, length, Ok, Err, refl, sym, ap, subst, inl, inr, arith}
 use Rattle.scala_lines.specs.Laws.{ArePrefixes, AreNumbers}
 use Rattle.scala_lines.specs.Lines.{Numbered, content, entry_lines}
 use Rattle.scala_lines.specs.Reading.{Fault, ◌>>=◌, fault, on_line}
@@ -8,7 +8,7 @@ use Rattle.scale_changes.specs.declared.fault.ListKind.{ListKind}
 use Rattle.scale_changes.specs.declared.fault.ListKind.TheVariants.{TooMany}
 use Rattle.scale_changes.specs.Names.{Change}
 use Rattle.scale_changes.specs.Reading.{change_of, list_at, list_of}
-use Rattle.scale_changes.specs.Spelling.{IsChange, NoChange, AreChanges, ListText, last_tick, CantBeTaken, StopsAtLine, ListTextFault}
+use Rattle.scale_changes.specs.Spelling.{IsChange, AreChanges, ListText, CantBeTaken, StopsAtLine, ListTextFault}
 use Rattle.scale_changes.proofs.Ticks.{change_takes, change_again, no_change_takes, no_change_again}
 
 abbrev Taken : ℕ → ℕ → List Numbered → List Change → Type 0

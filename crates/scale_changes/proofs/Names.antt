@@ -1,12 +1,12 @@
 -- The name on a line: the one that is found stands there, and the one that stands there is found.
-use Rattle.std.proofs.Common.{◌≡◌, ℕ, zero, suc, ◌+◌, ◌<◌, List, [], ◌∷◌, ◌++◌, length, Option, Some, None, Bool, true, false, refl, sym, ap, subst, ◌∙◌, inl, inr, arith, append-nil, append_assoc}
+use Rattle.std.proofs.Common.{◌≡◌, ℕ, zero, suc, ◌<◌, List, [], ◌∷◌, ◌++◌, length, Option, Some, None, Bool, true, false, refl, sym, ap, subst, ◌∙◌, inl, inr, arith, append-nil}
 use Rattle.std.specs.Prelude.{◌==◌, nat_le, if◌then◌else◌, slice_index, IsUtf8}
 use Rattle.std.proofs.lemmas.Str.{IsUtf8-from_ascii}
-use Rattle.std.proofs.lemmas.Bool.{eqb-true, eqb-false, ne_eqb, leb-true, lt-leb, and_parts, or_parts, and_left, or_from}
+use Rattle.std.proofs.lemmas.Bool.{eqb-true, eqb-false, ne_eqb, leb-true, and_parts, or_from}
 use Rattle.std.proofs.lemmas.List.{nil_from_length}
-use Rattle.scala_lines.specs.Characters.{is_blank, is_digit, prefix, behind, Are, StopsAt, digits_of, after_digits, after_blanks}
+use Rattle.scala_lines.specs.Characters.{is_blank, is_digit, prefix, behind, Are, StopsAt, after_digits, after_blanks}
 use Rattle.scala_lines.specs.Laws.{ArePrefixes}
-use Rattle.scala_lines.specs.Spelling.{IsNumber, HasDigits}
+use Rattle.scala_lines.specs.Spelling.{HasDigits}
 use Rattle.scala_lines.specs.Steps.{chosen}
 use Rattle.scale_changes.specs.Names.{is_name_byte}
 use Rattle.scale_changes.specs.Reading.{name_alone, name_behind, name_in}

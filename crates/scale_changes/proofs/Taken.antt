@@ -1,7 +1,7 @@
 -- The changes of a list, read in order.
 use Rattle.std.proofs.Common.{◌≡◌, ℕ, zero, suc, ◌+◌, ◌<◌, Bor, map, List, [], ◌∷◌, ◌++◌, Result, Ok, Err, refl, sym, ap, ◌∙◌, arith, append_assoc, append-nil, add-one}
 use Rattle.scala_lines.specs.Lines.{Numbered}
-use Rattle.scala_lines.specs.Reading.{Fault, ◌>>=◌, fault, on_line}
+use Rattle.scala_lines.specs.Reading.{Fault, ◌>>=◌, fault}
 use Rattle.scale_changes.specs.declared.fault.ListKind.{ListKind}
 use Rattle.scale_changes.specs.declared.fault.ListKind.TheVariants.{TooMany}
 use Rattle.scale_changes.specs.Names.{Change}

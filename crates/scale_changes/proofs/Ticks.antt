@@ -1,11 +1,11 @@
 -- The tick and the name of a line, and its fault.
-use Rattle.std.proofs.Common.{◌≡◌, ℕ, zero, suc, ◌<◌, ◌≤◌, ◌⊎◌, List, length, Option, Some, None, Result, Ok, Err, false, refl, sym, ap, subst, ◌∙◌, inl, inr, arith}
-use Rattle.std.specs.Prelude.{◌==◌, ◌||◌, nat_lt, nat_le}
+use Rattle.std.proofs.Common.{◌≡◌, ℕ, zero, suc, ◌<◌, ◌≤◌, ◌⊎◌, List, length, Option, Some, None, Ok, Err, false, refl, sym, ap, subst, ◌∙◌, inl, inr, arith}
+use Rattle.std.specs.Prelude.{◌==◌, ◌||◌, nat_lt}
 use Rattle.std.proofs.lemmas.Bool.{eq-eqb, ne_eqb, lt-ltb, le-ltb, le-leb, lt-leb, cases_lt, or_from, or_left, or_right}
 use Rattle.scala_lines.specs.Characters.{after_digits, after_blanks}
 use Rattle.scala_lines.specs.Numbers.{value}
 use Rattle.scala_lines.specs.Laws.{ArePrefixes, AreNumbers}
-use Rattle.scala_lines.specs.Spelling.{IsNumber, HasDigits, HasNoDigit, number_of}
+use Rattle.scala_lines.specs.Spelling.{HasDigits, number_of}
 use Rattle.scala_lines.specs.Steps.{ok_is, err_is, ok_not_err}
 use Rattle.scale_changes.specs.declared.fault.ListKind.{ListKind}
 use Rattle.scale_changes.specs.declared.fault.ListKind.TheVariants.{BadTick, TickOrder, BadName, TooMany}

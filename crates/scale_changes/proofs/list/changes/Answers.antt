@@ -1,4 +1,4 @@
-use Rattle.std.proofs.Common.{◌≡◌, ◌<◌, ◌-◌, ◌+◌, ◌++◌, ◌∷◌, [], length, map, sym, ap, ◌∙◌, arith, length-append}
+use Rattle.std.proofs.Common.{◌≡◌, ◌<◌, ◌-◌, ◌+◌, ◌∷◌, [], length, map, sym, ap, ◌∙◌, arith, length-append}
 use Rattle.scala_lines.specs.Lines.{entry_lines}
 use Rattle.scala_lines.specs.Remaining.{view, remaining}
 use Rattle.scale_changes.specs.Answers.{change_as_told}
