@@ -103,7 +103,7 @@ other_pressure t c d k now wanted (n ∷ ns) h = elim (cases_eq n.channel c) [
       let y : nat_eq n.channel d ≡ false = ne_eqb n.channel d (λ z. h (sym z ∙ e)) in
       past f (map (followed t c now wanted) ns) x ∙ other_pressure t c d k now wanted ns h ∙ sym (past n ns y)
   | inr e ↦ ap (λ m. key_pressure (m ∷ map (followed t c now wanted) ns) d k) (other_note t c now wanted n e)
-  ∙ ap (λ r. cond (is_at d k n && sounds n) n.pressure r) (other_pressure t c d k now wanted ns h)
+      ∙ ap (λ r. cond (is_at d k n && sounds n) n.pressure r) (other_pressure t c d k now wanted ns h)
 ]
   where
     past : (m : Note) (ms : List Note) → nat_eq m.channel d ≡ false → key_pressure (m ∷ ms) d k ≡ key_pressure ms d k

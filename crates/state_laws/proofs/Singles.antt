@@ -216,7 +216,7 @@ writes_high l c v s p h low t =
     ap (bring c s) (high_step s s.own.selection ps c v p t)
     ∙ set_values l c s p w (cond (nat_eq (value_of ps p).0 v) [] (choose_parameter c p ++ Control c 6 v ∷ Control c 101 127 ∷ Control c 100 127 ∷ [])) h (elim r [
       | inl k ↦ ap (λ es. closed c (bring_each c ps es)) k.1
-      ∙ ap (λ b. cond b [] (choose_parameter c p ++ Control c 6 v ∷ Control c 101 127 ∷ Control c 100 127 ∷ [])) (sym (eq-eqb (value_of ps p).0 v (ap (λ x. x.0) k.0)))
+          ∙ ap (λ b. cond b [] (choose_parameter c p ++ Control c 6 v ∷ Control c 101 127 ∷ Control c 100 127 ∷ [])) (sym (eq-eqb (value_of ps p).0 v (ap (λ x. x.0) k.0)))
       | inr k ↦
           let d : nat_eq (value_of ps p).0 v ≡ false = ne_eqb (value_of ps p).0 v (λ x. k.0 (ap (λ y. (y, (value_of ps p).1)) x)) in
           ap (λ es. closed c (bring_each c ps es)) k.1
@@ -237,7 +237,7 @@ writes_low l c v s p h low t =
     ap (bring c s) (low_step s s.own.selection ps c v p t)
     ∙ set_values l c s p w (cond (nat_eq (value_of ps p).1 v) [] (choose_parameter c p ++ Control c 38 v ∷ Control c 101 127 ∷ Control c 100 127 ∷ [])) h (elim r [
       | inl k ↦ ap (λ es. closed c (bring_each c ps es)) k.1
-      ∙ ap (λ b. cond b [] (choose_parameter c p ++ Control c 38 v ∷ Control c 101 127 ∷ Control c 100 127 ∷ [])) (sym (eq-eqb (value_of ps p).1 v (ap (λ x. x.1) k.0)))
+          ∙ ap (λ b. cond b [] (choose_parameter c p ++ Control c 38 v ∷ Control c 101 127 ∷ Control c 100 127 ∷ [])) (sym (eq-eqb (value_of ps p).1 v (ap (λ x. x.1) k.0)))
       | inr k ↦
           let d : nat_eq (value_of ps p).1 v ≡ false = ne_eqb (value_of ps p).1 v (λ x. k.0 (ap (λ y. ((value_of ps p).0, y)) x)) in
           ap (λ es. closed c (bring_each c ps es)) k.1

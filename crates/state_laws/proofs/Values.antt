@@ -180,7 +180,7 @@ defaults_set wanted (e ∷ es) q h = elim (cases_eq (rank e.parameter) (rank q))
       ap (λ b. value_or (map made_default (cond b (e ∷ filter (wants_default wanted) es) (filter (wants_default wanted) es))) (value_of (e ∷ es) q) q) t
       ∙ found_or (made_default e) (map made_default (filter (wants_default wanted) es)) (value_of (e ∷ es) q) q x ∙ default_by e.parameter q x
   | inr x ↦ past (wants_default wanted e) x
-  ∙ ap (λ d. value_or (map made_default (filter (wants_default wanted) es)) d q) (skip e es q x) ∙ defaults_set wanted es q h
+      ∙ ap (λ d. value_or (map made_default (filter (wants_default wanted) es)) d q) (skip e es q x) ∙ defaults_set wanted es q h
 ]
   where
     past : (b : Bool) → rank e.parameter ≢ rank q
