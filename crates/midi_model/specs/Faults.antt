@@ -1,5 +1,5 @@
 -- The first fault of bytes that spell no file (Standard MIDI File 1.0; the table of faults is this project's own): what
--- is wrong right after the longest front of the bytes that breaks no rule. Each relation speaks of bytes, of those of
+-- is wrong right after the longest prefix of the bytes that breaks no rule. Each relation speaks of bytes, of those of
 -- them from the fault on, and of its kind. A fault at the end of a chunk, or of the bytes, has no bytes from it on.
 use Rattle.std.specs.Prelude.{◌≡◌, ◌<◌, ◌≤◌, ◌⊎◌, ℕ, zero, suc, ◌+◌, ◌-◌, List, [], ◌∷◌, ◌++◌, length, drop, false}
 use Rattle.std.specs.Int.{w16, w32}
@@ -24,7 +24,7 @@ abbrev pub DataFault : List ℕ → List ℕ → SmfKind → Type 0
 DataFault [] back kind = (back ≡ []) × (kind ≡ Truncated)
 DataFault (b ∷ bytes) back kind = (128 ≤ b) × (back ≡ b ∷ bytes) × (kind ≡ BadData)
 
--- the data bytes of a message with a status
+-- the data bytes of a message with a status byte
 abbrev pub MessageFault : ℕ → List ℕ → List ℕ → SmfKind → Type 0
 MessageFault status bytes back kind = DataFault bytes back kind ⊎ ((d : ℕ) × (rest : List ℕ) × (bytes ≡ d ∷ rest) × (d < 128) × IsLong status × DataFault rest back kind)
 

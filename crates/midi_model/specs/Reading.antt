@@ -59,7 +59,7 @@ unfoldable pub data_at : List ℕ → Result (ℕ × List ℕ) Stop
 data_at [] = stop [] Truncated
 data_at (b ∷ bs) = if nat_lt b 128 then Ok (b, bs) else stop (b ∷ bs) BadData
 
--- the message of a status and its data bytes
+-- the message of a status byte and its data bytes
 abbrev pub long_msg : ℕ → ℕ → ℕ → Msg
 long_msg status d e =
     if nat_lt status 144 then NoteOff (status - 128) d e
@@ -74,11 +74,11 @@ short_msg status d = if nat_lt status 208 then Program (status - 192) d else Pre
 abbrev pub is_short : ℕ → Bool
 is_short status = if nat_lt status 192 then false else nat_lt status 224
 
--- a status of a message with two data bytes
+-- a status byte of a message with two data bytes
 abbrev pub IsLong : ℕ → Type 0
 IsLong status = (128 ≤ status) × (status < 240) × ((status < 192) ⊎ (224 ≤ status))
 
--- a running status: none, or the status of a channel message
+-- a running status: none, or the status byte of a channel message
 abbrev pub IsRunning : ℕ → Type 0
 IsRunning running = (0 < running → 128 ≤ running) × (running < 240)
 

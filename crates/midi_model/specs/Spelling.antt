@@ -18,7 +18,7 @@ pub record IsQuantity (bytes : List ℕ) (n : ℕ) : Type 0 where
   pub digits : IsDigits bytes 0 n
   pub short : length bytes ≤ 4
 
--- the data bytes of a message with a status
+-- the data bytes of a message with a status byte
 abbrev pub IsMessage : ℕ → List ℕ → Msg → Type 0
 IsMessage status [] m = ⊥
 IsMessage status (d ∷ []) m = (192 ≤ status) × (status < 224) × (d < 128) × (m ≡ short_msg status d)

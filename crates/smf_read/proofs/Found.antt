@@ -5,31 +5,20 @@ use Rattle.smf_read.specs.declared.fault.SmfFault.{SmfFault}
 use Rattle.smf_read.specs.Files.{Reads, IsFirst}
 use Rattle.midi_model.specs.declared.fault.SmfKind.{SmfKind}
 use Rattle.midi_model.specs.Faults.{FirstFault}
+use Rattle.midi_model.specs.FileLaws.{ReadIsSpelt, SpeltIsRead, ReadFaultIsFirst}
 use Rattle.midi_model.specs.FileText.{MidiFile, file_at}
 use Rattle.midi_model.specs.Spelling.{Spells}
 use Rattle.smf_read.specs.declared.fault.SmfFault.TheVariants as faults
 
--- what is read is spelled
-abbrev FileIsSpelled : Type 0
-FileIsSpelled = (bytes : List ℕ) (file : MidiFile) → file_at bytes ≡ Ok file → Spells bytes file
-
--- what is spelled is read
-abbrev SpelledIsRead : Type 0
-SpelledIsRead = (bytes : List ℕ) (file : MidiFile) → Spells bytes file → file_at bytes ≡ Ok file
-
--- the fault that is read is the first
-abbrev FaultIsFirst : Type 0
-FaultIsFirst = (bytes : List ℕ) (offset : ℕ) (kind : SmfKind) → file_at bytes ≡ Err (offset, kind) → FirstFault bytes offset kind
-
--- the same of what the program answered
-pub is_found : FileIsSpelled → (result : Result MidiFile SmfFault) (bytes : List ℕ) → Reads result (file_at bytes) → IfOk result (λ f. Spells bytes f)
+-- what the program answered
+pub is_found : ReadIsSpelt → (result : Result MidiFile SmfFault) (bytes : List ℕ) → Reads result (file_at bytes) → IfOk result (λ f. Spells bytes f)
 is_found law (Ok f) bytes reads = law bytes f reads
 is_found law (Err e) bytes reads = tt
 
-pub is_only : SpelledIsRead → (result : Result MidiFile SmfFault) (bytes : List ℕ) → Reads result (file_at bytes) → (file : MidiFile) → Spells bytes file → Reads result (Ok file)
+pub is_only : SpeltIsRead → (result : Result MidiFile SmfFault) (bytes : List ℕ) → Reads result (file_at bytes) → (file : MidiFile) → Spells bytes file → Reads result (Ok file)
 is_only law result bytes reads file is = subst (Reads result) (law bytes file is) reads
 
-pub is_first : FaultIsFirst → (result : Result MidiFile SmfFault) (bytes : List ℕ) → Reads result (file_at bytes) → IfErr result (λ e. IsFirst bytes e)
+pub is_first : ReadFaultIsFirst → (result : Result MidiFile SmfFault) (bytes : List ℕ) → Reads result (file_at bytes) → IfErr result (λ e. IsFirst bytes e)
 is_first law (Ok f) bytes reads = tt
 is_first law (Err faults.Memory) bytes reads = tt
 is_first law (Err (faults.At offset kind)) bytes reads = law bytes offset kind reads
