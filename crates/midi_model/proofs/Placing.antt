@@ -1,12 +1,12 @@
 -- A place where a chunk should begin, and fewer than eight bytes are left.
-use Rattle.std.proofs.Common.{◌≡◌, ℕ, zero, suc, ◌+◌, ◌-◌, ◌<◌, ◌⊎◌, List, [], ◌∷◌, ◌++◌, length, refl, sym, ap, subst, ◌∙◌, inl, inr, arith, append_assoc}
+use Rattle.std.proofs.Common.{◌≡◌, ℕ, zero, suc, ◌+◌, ◌<◌, List, [], ◌∷◌, ◌++◌, length, refl, sym, ap, subst, ◌∙◌, inl, inr, arith, append_assoc}
 use Rattle.std.proofs.lemmas.List.{append-nil, length-append}
 use Rattle.midi_model.specs.declared.fault.SmfKind.{SmfKind}
 use Rattle.midi_model.specs.declared.fault.SmfKind.TheVariants.{MissingTrack}
 use Rattle.midi_model.specs.declared.numbers.TheConstants.{MTRK}
 use Rattle.mt_base.specs.Midi.{Timed}
 use Rattle.midi_model.specs.Spelling.{AreSkipped, AreTracks}
-use Rattle.midi_model.specs.Faults.{DigitsFault, DataFault, MessageFault, BytesFault, ContentFault, MetaFault, BodyFault, EventFault, TrackFault, FieldsFault, HeaderFault, FileFault, TracksFault, FirstFault, AreChunks, IsChunkPlace}
+use Rattle.midi_model.specs.Faults.{DigitsFault, DataFault, MessageFault, BytesFault, ContentFault, MetaFault, BodyFault, EventFault, TrackFault, FieldsFault, HeaderFault, FirstFault, AreChunks, IsChunkPlace}
 
 -- ---- no other fault is that of a missing chunk
 
