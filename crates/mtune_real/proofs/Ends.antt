@@ -1,8 +1,7 @@
 -- The status of an outcome tells how the work ended.
 use Rattle.std.proofs.Common.{ℕ, ◌≡◌, ◌⊎◌, inl, inr, Option, Some, None, IfSome, IfNone}
 use Rattle.mtune_core.specs.declared.outcome.Fault.{Fault}
-use Rattle.mtune_core.specs.Answers.{status_if}
-use Rattle.mtune_core.specs.Status.{status_of}
+use Rattle.mtune_core.specs.Status.{status_of, status_if}
 
 pub by_fault : (fault : Option Fault) (status : ℕ) (A B : Type 0) (R : Fault → Type 0) → status ≡ status_if fault → IfNone fault A → IfSome fault R
     → ((status ≡ 0) × A) ⊎ (((e : Fault) × (status ≡ status_of e) × R e) ⊎ B)
