@@ -38,7 +38,6 @@ pub one_byte_at : (bytes : List ℕ) → 1 ≤ length bytes → get_or bytes 0 0
 one_byte_at [] some low = absurd (omega (arith, some))
 one_byte_at (b ∷ bytes) some low = rw (take_all (length (b ∷ bytes) - 1) bytes (omega arith)) (one_byte b bytes low)
 
-
 two_bytes : (h l : ℕ) (bytes : List ℕ) → 128 ≤ h → l < 128 → quantity_at (h ∷ l ∷ bytes) ≡ Ok ((h - 128) * 128 + l, bytes)
 unfolding quantity_at quantity_from
 two_bytes h l bytes high low = rw (le-ltb h 128 high, lt-ltb l 128 low) (ap (λ (n : ℕ). Ok (n, bytes)) (omega arith))

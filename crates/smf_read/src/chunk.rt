@@ -106,9 +106,7 @@ pub fn read_header(bytes: &[u8]) -> Result<(Header, &[u8]), Stop>
 fn read_chunk(bytes: &[u8]) -> Result<(Chunk<'_>, &[u8]), Stop>
     ensures gives { Gives view_chunk result (chunk_at bytes.entry.now) }
     ensures within { Within result (length bytes.entry.now) }
-    ensures part {
-        IfOk result (λ x. parts_len x.0.content.now x.1.now + 8 ≡ length bytes.entry.now)
-    }
+    ensures part { IfOk result (λ x. parts_len x.0.content.now x.1.now + 8 ≡ length bytes.entry.now) }
 {
     if bytes.len() < 8 {
         return Err(stop(bytes, SmfKind::MissingTrack));

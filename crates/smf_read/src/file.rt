@@ -31,16 +31,10 @@ fn track(bytes: &[u8]) -> Result<(&[u8], &[u8]), Stop>
 
 /// The contents of so many track chunks, and the bytes behind them.
 fn tracks<'a>(alloc: Global, count: u16, bytes: &'a [u8]) -> Result<(Vec<&'a [u8]>, &'a [u8]), Halt>
-    ensures gives {
-        Finds (λ x. (contents_of x.0.items, x.1.now)) result (tracks_at count bytes.entry.now)
-    }
+    ensures gives { Finds (λ x. (contents_of x.0.items, x.1.now)) result (tracks_at count bytes.entry.now) }
     ensures count { IfOk result (λ x. length x.0.items ≡ count) }
-    ensures sound {
-        length bytes.entry.now ≤ MOST_BYTES → IfOk result (λ x. AreSound (contents_of x.0.items))
-    }
-    ensures together {
-        IfOk result (λ x. 2 * count_events (contents_of x.0.items) ≤ length bytes.entry.now)
-    }
+    ensures sound { length bytes.entry.now ≤ MOST_BYTES → IfOk result (λ x. AreSound (contents_of x.0.items)) }
+    ensures together { IfOk result (λ x. 2 * count_events (contents_of x.0.items) ≤ length bytes.entry.now) }
 {
     reading_laws();
     let mut contents = Vec::new(alloc);

@@ -23,8 +23,7 @@ pub fn read_short(running: u8, bytes: &[u8]) -> Option<Short>
 {
     match bytes {
         [delta, first, second, ..]
-            if *delta < 128 && *first < 128 && *second < 128 && is_long(running) =>
-        {
+            if *delta < 128 && *first < 128 && *second < 128 && is_long(running) => {
             Some(Short {
                 delta: *delta as u32,
                 status: running,
@@ -34,8 +33,7 @@ pub fn read_short(running: u8, bytes: &[u8]) -> Option<Short>
             })
         }
         [delta, status, first, second, ..]
-            if *delta < 128 && is_long(*status) && *first < 128 && *second < 128 =>
-        {
+            if *delta < 128 && is_long(*status) && *first < 128 && *second < 128 => {
             Some(Short {
                 delta: *delta as u32,
                 status: *status,
@@ -45,12 +43,7 @@ pub fn read_short(running: u8, bytes: &[u8]) -> Option<Short>
             })
         }
         [high, low, first, second, ..]
-            if *high >= 128
-                && *low < 128
-                && *first < 128
-                && *second < 128
-                && is_long(running) =>
-        {
+            if *high >= 128 && *low < 128 && *first < 128 && *second < 128 && is_long(running) => {
             Some(Short {
                 delta: (*high as u32 - 128) * 128 + *low as u32,
                 status: running,
