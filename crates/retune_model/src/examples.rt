@@ -195,7 +195,8 @@ pub fn need_examples()
 /// The premises of the dump route's law can be met: a source with a reset between two notes, in equal temperament.
 pub fn dumpable_example()
     ensures dumpable { IsDumpable even (with_route ByDump 12) equal_table dump reset_between }
-    ensures same { PlayTheSame even (with_route ByDump 12) equal_table (plain_device (with_route ByDump 12)) reset_between (dumped (with_route ByDump 12) dump reset_between) }
+    ensures same { PlayTheSame even (with_route ByDump 12) equal_table (plain_device (with_route ByDump 12))
+        reset_between (dumped (with_route ByDump 12) dump reset_between) }
 {
     exact();
     fault_laws();
