@@ -1,7 +1,7 @@
 -- A number that waits outside a tree of numbers.
-use Rattle.std.proofs.Common.{◌≡◌, ℕ, zero, suc, ◌+◌, ◌*◌, ◌<◌, ◌≤◌, ◌⊎◌, List, ◌∷◌, length, take, drop, set, get_or, replicate, refl, sym, ap, subst, ◌∙◌, inl, inr, arith, get_or-set_same}
+use Rattle.std.proofs.Common.{◌≡◌, ℕ, zero, suc, ◌+◌, ◌*◌, ◌<◌, ◌≤◌, List, length, set, get_or, replicate, refl, sym, ap, ◌∙◌, inl, inr, arith, get_or-set_same}
 use Rattle.std.specs.Prelude.{Contains}
-use Rattle.std.proofs.lemmas.List.{length-set, set-set, set-get_or, get_or-replicate}
+use Rattle.std.proofs.lemmas.List.{length-set, set-get_or, get_or-replicate}
 use Rattle.event_stream.specs.Tree.{IsLeast, leaves, numbers_in}
 use Rattle.event_stream.proofs.Trees.{leaf_at, count_leaves}
 

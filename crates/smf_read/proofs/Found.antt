@@ -1,10 +1,8 @@
 -- What the reader answers, by what the bytes spell, with the laws that `file_laws` states.
-use Rattle.std.proofs.Common.{◌≡◌, ℕ, List, Result, Ok, Err, subst}
+use Rattle.std.proofs.Common.{ℕ, List, Result, Ok, Err, subst}
 use Rattle.std.specs.Prelude.{IfOk, IfErr}
 use Rattle.smf_read.specs.declared.fault.SmfFault.{SmfFault}
 use Rattle.smf_read.specs.Files.{Reads, IsFirst}
-use Rattle.midi_model.specs.declared.fault.SmfKind.{SmfKind}
-use Rattle.midi_model.specs.Faults.{FirstFault}
 use Rattle.midi_model.specs.FileLaws.{ReadIsSpelt, SpeltIsRead, ReadFaultIsFirst}
 use Rattle.midi_model.specs.FileText.{MidiFile, file_at}
 use Rattle.midi_model.specs.Spelling.{Spells}

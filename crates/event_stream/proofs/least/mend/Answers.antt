@@ -1,4 +1,4 @@
-use Rattle.std.proofs.Common.{◌≡◌, ◌≤◌, ◌<◌, ◌+◌, ◌*◌, ◌/◌, length, get_or, min, arith, refl, sym, ◌∙◌, get_or-set_same}
+use Rattle.std.proofs.Common.{◌≡◌, ◌<◌, ◌+◌, ◌*◌, ◌/◌, length, get_or, min, arith, refl, sym, ◌∙◌, get_or-set_same}
 use Rattle.std.proofs.lemmas.List.{length-set}
 use Rattle.event_stream.proofs.Trees.{place_mended, leaves_stay}
 use Rattle.event_stream.proofs.Under.{at_leaf, one_up, at_first, lesser}

@@ -1,4 +1,4 @@
-use Rattle.std.proofs.Common.{◌≡◌, ◌≤◌, ◌<◌, ◌*◌, ◌∙◌, ℕ, set, get_or, length, arith, ap, inl, subst, sym}
+use Rattle.std.proofs.Common.{◌≡◌, ◌≤◌, ◌*◌, ◌∙◌, ℕ, set, get_or, length, arith, ap, inl, subst, sym}
 use Rattle.std.specs.Prelude.{All, Contains}
 use Rattle.event_stream.specs.Tree.{leaves}
 use Rattle.event_stream.proofs.Trees.{least_of, among_them}

@@ -1,4 +1,4 @@
-use Rattle.std.proofs.Common.{◌≡◌, ◌<◌, length, get_or, [], ap, sym, subst, ◌∙◌, map, arith}
+use Rattle.std.proofs.Common.{◌≡◌, length, get_or, [], ap, sym, subst, ◌∙◌, map, arith}
 use Rattle.mt_base.specs.Midi.{placed}
 use Rattle.midi_model.specs.FileText.{MidiFile, events_of}
 use Rattle.midi_model.specs.Merged.{IsTrackOf, AreTracksOf}
