@@ -5,7 +5,7 @@
 use Rattle.std.specs.Prelude.{◌≡◌, ◌<◌, ◌≤◌, ◌⊎◌, ◌+◌, ℕ, zero, suc, ℤ, pos, negsuc, ◌+ℤ◌, List, [], ◌∷◌, Bool, true, false, ◌&&◌, nat_eq, nat_le, if◌then◌else◌, Option, Some, None, length, set, replicate, filter}
 use Rattle.std.specs.Set.{is_member}
 use Rattle.midi_model.specs.Params.{rpn, put}
-use Rattle.midi_model.specs.Channel.{State, default_channel}
+use Rattle.midi_model.specs.Channel.{State, default_state}
 use Rattle.midi_model.specs.Notes.{Note}
 use Rattle.midi_model.specs.Music.{Music, channel_at}
 use Rattle.midi_model.specs.Bring.{bring}
@@ -49,9 +49,6 @@ wanted o table m p =
       own = record part { params = put (rpn 0) (o.range, 0) part.params; bend = bend_value ((pos 8192 +ℤ p.steps) +ℤ bend_in_steps o.range part) };
       keys = wanted_keys o table p (sounding o m);
     }
-
-abbrev pub default_state : State
-default_state = record { own = default_channel; keys = replicate 128 0 }
 
 -- ---- what a free channel was last used for
 

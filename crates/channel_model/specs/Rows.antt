@@ -2,13 +2,13 @@
 use Rattle.std.specs.Prelude.{◌≡◌, ◌≤◌, ◌<◌, ◌⊎◌, ℕ, zero, suc, ◌+◌, List, [], ◌∷◌, Bool, true, false, ◌&&◌, nat_eq, filter, take, get_or, length, Option, Some, None}
 use Rattle.std.specs.Set.{is_member}
 use Rattle.mt_base.specs.Midi.{MidiEvent}
-use Rattle.retune_model.specs.Options.{Options, keeps_drums}
+use Rattle.retune_model.specs.Options.{Options, keeps_drums, is_retuned}
 use Rattle.retune_model.specs.Ports.{port_at, events_on}
 use Rattle.retune_model.specs.Faults.{Targets, is_part}
 use Rattle.retune_model.specs.Pairs.{Pair, is_same_pair, channels_of}
 use Rattle.retune_model.specs.Runs.{since}
 use Rattle.retune_model.specs.PortNeed.{pairs_on, IsNeedOf}
-use Rattle.retune_model.specs.Dump.{from_up, sounding_parts}
+use Rattle.retune_model.specs.Dump.{from_up, parts_with_notes}
 use Rattle.channel_model.specs.Choice.{TakesShortest, TakesShortestMember}
 use Rattle.channel_model.specs.MpeOutput.{Zone, members_from, zones_for, lower_allowed, upper_allowed}
 
@@ -32,8 +32,8 @@ channel_by used row at k p = get_or used (row (since is_same_pair at p k)) 0
 
 -- ---- plans
 
--- The plan of a port on the bend route: its need is within the allowed channels, and each run gets, of the used row, a free channel with
--- the shortest setup.
+-- The plan of a port on the bend route: its need is within the allowed channels, and each run gets, of the used row, the free channel
+-- with the shortest setup, among equals the one that is free longest, then the first.
 pub record IsBendPlan (o : Options) (allowed : ℕ → Bool) (table : Targets) (es : List MidiEvent) (z n instant : ℕ) (row : ℕ → ℕ) (channel : ℕ → Pair → ℕ) : Type 0 where
   pub need : IsNeedOf o (is_part o) table es z n instant
   pub within : n ≤ length (allowed_row o allowed)
@@ -44,7 +44,8 @@ pub record IsBendPlan (o : Options) (allowed : ℕ → Bool) (table : Targets) (
 abbrev pub only : ℕ → ℕ → Bool
 only c d = nat_eq d c
 
--- The plan of a zone: as many members as its part needs, and each run gets a free member, without a bend where one has its bend.
+-- The plan of a zone: as many members as its part needs, and each run gets a free member that has its bend, where there is one; among
+-- equals the one that is free longest, then the one nearest the master.
 pub record IsZonePlan (o : Options) (table : Targets) (es : List MidiEvent) (z : ℕ) (zone : Zone) (instant : ℕ) (row : ℕ → ℕ) (channel : ℕ → Pair → ℕ) : Type 0 where
   pub need : IsNeedOf o (only zone.part) table es z zone.members instant
   pub takes : TakesShortestMember o (only zone.part) table (port_at es z) (length es) zone.members row
@@ -63,12 +64,13 @@ ZonesFit drums (l ∷ u ∷ _) = (l.members ≤ lower_allowed drums (l ∷ u ∷
 
 -- The zones of a port: at most two parts have a note on, each zone is of one of them, and none has more members than it may.
 pub record AreZonesOf (o : Options) (es : List MidiEvent) (z : ℕ) (need : ℕ → ℕ) (zones : List Zone) : Type 0 where
-  pub few : length (sounding_parts o (events_on z es)) ≤ 2
-  pub by_need : zones ≡ zones_for (needs_of need (sounding_parts o (events_on z es)))
+  pub few : length (parts_with_notes o (events_on z es)) ≤ 2
+  pub by_need : zones ≡ zones_for (needs_of need (parts_with_notes o (events_on z es)))
   pub fit : ZonesFit (keeps_drums o (events_on z es)) zones
 
 -- ---- the assignment that is read from an output
 
--- the i-th retuned note of a port of the source has the channel of the i-th retuned note of the port in the output
-abbrev pub read_channel : (ℕ → Bool) → ℕ → List MidiEvent → ℕ → ℕ
-read_channel part z out i = get_or (channels_of part z out) i 0
+-- The i-th retuned note of a port of the source has the channel of the i-th retuned note of the port in the output. Where drums are kept
+-- and the port has none, channel 10 is a channel as any other.
+abbrev pub read_channel : Options → (source out : List MidiEvent) → ℕ → ℕ → ℕ
+read_channel o source out z i = get_or (channels_of (is_retuned (keeps_drums o (events_on z source))) z out) i 0

@@ -9,7 +9,7 @@ use Rattle.mt_base.specs.Valid.{IsValidWhat, IsValidEvent}
 use Rattle.retune_model.specs.Faults.{is_part}
 use Rattle.retune_model.specs.PlaysTheSame.{begins_note}
 use Rattle.retune_model.specs.Routes as routes
-use Rattle.retune_model.specs.Dump.{has_note_on, from_up, sounding_parts, dump_if, dump_setup}
+use Rattle.retune_model.specs.Dump.{has_note_on, from_up, parts_with_notes, dump_if, dump_setup}
 use Rattle.mtune_core.specs.declared.survey.Survey.{Survey}
 use Rattle.mtune_core.specs.declared.translating.Setup.{Setup}
 use Rattle.mtune_core.specs.Source.{is_retuned, is_taken, note_on}
@@ -248,7 +248,7 @@ none_marked (suc n) (suc i) = none_marked n i
 nothing_whole : IsWhole nothing
 nothing_whole = (refl, refl)
 
-pub found_parts : (es : List MidiEvent) → AllByRecursion IsValidEvent es → marked 0 (survey_of es).parts ≡ sounding_parts dump_options es
+pub found_parts : (es : List MidiEvent) → AllByRecursion IsValidEvent es → marked 0 (survey_of es).parts ≡ parts_with_notes dump_options es
 found_parts es valid =
     marked_filter (λ c. is_part dump_options c && has_note_on (λ d. nat_eq d c) es) 0 (survey_of es).parts
     (λ i j e low. from_part i nothing es nothing_whole valid
@@ -266,7 +266,7 @@ found_keys es k valid = from_key k nothing es nothing_whole valid ∙ ap (λ b. 
 pub found_notes : (es : List MidiEvent) → (survey_of es).notes ≡ count_by (λ e. begins_note (is_part dump_options) e.what) es
 found_notes es = from_notes nothing es ∙ omega arith
 
-pub found_part_count : (es : List MidiEvent) → AllByRecursion IsValidEvent es → count_by (λ b. b) (survey_of es).parts ≡ length (sounding_parts dump_options es)
+pub found_part_count : (es : List MidiEvent) → AllByRecursion IsValidEvent es → count_by (λ b. b) (survey_of es).parts ≡ length (parts_with_notes dump_options es)
 found_part_count es valid = marked_count 0 (survey_of es).parts ∙ ap length (found_parts es valid)
 
 pub found_taken : (es : List MidiEvent) → (survey_of es).taken ≡ true → AllByRecursion (λ e. is_taken e.what ≡ true) es
@@ -282,7 +282,7 @@ setup_with any bytes channels program = record { dumps = dump_if any bytes; chan
 pub view_is_dump_setup : (setup : Setup) (es : List MidiEvent) (bytes : List ℕ) → AllByRecursion IsValidEvent es → setup.parts ≡ (survey_of es).parts → setup.program ≡ 0 → setup.dump.items ≡ bytes
     → view_setup setup ≡ dump_setup dump_options bytes es
 view_is_dump_setup setup es bytes valid parts program dump =
-    same (any_of setup.parts) (has_note_on (is_part dump_options) es) setup.dump.items bytes (marked 0 setup.parts) (sounding_parts dump_options es) setup.program 0
+    same (any_of setup.parts) (has_note_on (is_part dump_options) es) setup.dump.items bytes (marked 0 setup.parts) (parts_with_notes dump_options es) setup.program 0
     (ap any_of parts ∙ found_any es valid) dump (ap (marked 0) parts ∙ found_parts es valid) program
   where
     same : (a b : Bool) (x y cs ds : List ℕ) (p q : ℕ) → a ≡ b → x ≡ y → cs ≡ ds → p ≡ q → setup_with a x cs p ≡ setup_with b y ds q

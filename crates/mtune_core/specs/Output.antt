@@ -9,7 +9,7 @@ use Rattle.midi_model.specs.Writing.{Written, written}
 use Rattle.event_stream.specs.Distributed.{distributed}
 use Rattle.retune_model.specs.PlaysTheSame.{begins_note}
 use Rattle.retune_model.specs.Faults.{is_part}
-use Rattle.retune_model.specs.Dump.{dumped, sounding_parts}
+use Rattle.retune_model.specs.Dump.{dumped, parts_with_notes}
 use Rattle.retune_model.specs.Routes.{Setup}
 use Rattle.mtune_core.specs.Chosen.{dump_options}
 use Rattle.mtune_core.specs.Limits.{input_limit}
@@ -51,4 +51,4 @@ AreShort source = (bytes : List ℕ) × Spells bytes source × (length bytes ≤
 abbrev pub report_of : List MidiEvent → List ℕ
 report_of es = report_text
     (count_by (λ e. begins_note (is_part dump_options) e.what) es)
-    (length (sounding_parts dump_options es))
+    (length (parts_with_notes dump_options es))

@@ -5,7 +5,7 @@ use Rattle.scl_text.specs.declared.entry.Entry.{Entry}
 use Rattle.scl_text.specs.Spelling.{ScaleText, ScaleFault}
 use Rattle.kbm_text.specs.Map.{a440}
 use Rattle.retune_model.specs.Scale.{term_count}
-use Rattle.retune_model.specs.Table.{Scaling, IsTable, AreFewTerms, one_scale}
+use Rattle.retune_model.specs.Table.{Scaling, IsTable, IsOnePerScale, AreFewTerms, one_scale}
 use Rattle.retune_model.specs.Faults.{Targets}
 use Rattle.key_pitch.specs.Aims.{table_of}
 use Rattle.key_pitch.specs.declared.table.KeyTable.{KeyTable}
@@ -27,7 +27,7 @@ pub record IsScale (text : List ℕ) (entries : List Entry) : Type 0 where
 -- One table for a whole call: it gives a key the same bounds wherever the same scale is in force.
 pub record IsOneTable (scaling : Scaling) (table : Targets) : Type 0 where
   pub is_table : IsTable scaling table
-  pub one : (key a b : ℕ) → scaling.scale_at a ≡ scaling.scale_at b → table key a ≡ table key b
+  pub one : IsOnePerScale scaling table
 
 -- the table that the program made, at every tick the same
 abbrev pub table_fn : KeyTable → Targets

@@ -88,7 +88,8 @@ impl MemFiles {
         Ok(())
     }
 
-    /// Makes the call of this number fail, before it does anything.
+    /// Makes the call of this number fail after no byte: a load gives nothing then, a store leaves an
+    /// empty content at the name, and a say says nothing.
     pub fn fail(&mut self, call: u32) -> Result<(), Memory>
         ensures set { OnOk result (settings_of self.new ≡ (call, 0) ∷ settings_of self.old) }
         ensures steady { OnOk result (outside_of self.new ≡ record (outside_of self.old)

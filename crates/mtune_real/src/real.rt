@@ -14,7 +14,13 @@ pub struct RealFiles {
 }
 
 impl RealFiles {
-    pub fn new(rt: HostRuntime) -> RealFiles {
+    ghost use Rattle.std.specs.Prelude.{◌≡◌};
+    ghost use Rattle.mtune_real.specs.Real.{outside_of, nothing_told};
+
+    /// No call was made yet.
+    pub fn new(rt: HostRuntime) -> RealFiles
+        ensures { outside_of result ≡ nothing_told }
+    {
         RealFiles {
             rt,
             faults: Counts::new(),

@@ -11,7 +11,7 @@ use Rattle.retune_model.specs.Blocks.{Group, Block, all_events, events_of}
 use Rattle.retune_model.specs.Routes.{Setup, IsHarmless, sends, selects, setup_at, dump_before, dump_behind, dump_next, dump_block}
 use Rattle.retune_model.specs.Options.{Options}
 use Rattle.retune_model.specs.Faults.{is_part}
-use Rattle.retune_model.specs.Dump.{has_note_on, from_up, sounding_parts, dump_if, dump_setup, dumped}
+use Rattle.retune_model.specs.Dump.{has_note_on, from_up, parts_with_notes, dump_if, dump_setup, dumped}
 use Rattle.retune_model.specs.Ports.{port_of, all_zero, events_on}
 use Rattle.retune_model.proofs.Fronts.{all_append}
 use Rattle.retune_model.proofs.Ported.{kept_block, kept_next, as_translated}
@@ -95,7 +95,7 @@ up_below : (c n k : ℕ) → c + n ≤ k → AllByRecursion (λ x. x < k) (from_
 up_below c zero k h = tt
 up_below c (suc n) k h = (omega (arith, h), up_below (c + 1) n k (omega (arith, h)))
 
-pub channels_below : (o : Options) (es : List MidiEvent) → AllByRecursion (λ c. c < 16) (sounding_parts o es)
+pub channels_below : (o : Options) (es : List MidiEvent) → AllByRecursion (λ c. c < 16) (parts_with_notes o es)
 channels_below o es = filter_each (λ c. is_part o c && has_note_on (λ d. nat_eq d c) es) (λ c. c < 16) (from_up 0 16) (up_below 0 16 16 (omega arith))
 
 each_dump : (P : List ℕ → Type 0) (b : Bool) (bytes : List ℕ) → P bytes → AllByRecursion P (dump_if b bytes)

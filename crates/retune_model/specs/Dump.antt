@@ -23,8 +23,8 @@ from_up c zero = []
 from_up c (suc n) = c ∷ from_up (c + 1) n
 
 -- the retuned parts that have a note on, by channel
-abbrev pub sounding_parts : Options → List MidiEvent → List ℕ
-sounding_parts o es = filter (λ c. is_part o c && has_note_on (λ d. nat_eq d c) es) (from_up 0 16)
+abbrev pub parts_with_notes : Options → List MidiEvent → List ℕ
+parts_with_notes o es = filter (λ c. is_part o c && has_note_on (λ d. nat_eq d c) es) (from_up 0 16)
 
 -- what the tuning program is told of each key: its target, or nothing where it has none
 abbrev pub tuning_if : Option Bounds → Option ℕ
@@ -61,7 +61,7 @@ dump_if true bytes = bytes ∷ []
 dump_if false bytes = []
 
 abbrev pub dump_setup : Options → List ℕ → List MidiEvent → Setup
-dump_setup o bytes es = record { dumps = dump_if (has_note_on (is_part o) es) bytes; channels = sounding_parts o es; program = o.program }
+dump_setup o bytes es = record { dumps = dump_if (has_note_on (is_part o) es) bytes; channels = parts_with_notes o es; program = o.program }
 
 -- The output of the dump route; bytes is the dump of the table's targets. The setup of a port stands right before the first channel
 -- message of the port, and right behind each reset of the port that comes later; it speaks of the parts of the port.
@@ -72,7 +72,7 @@ dumped o bytes es = through_ports
 
 -- The output of the live route; change k is the change of key k to its target. What a port's setup and changes are is by the port alone.
 abbrev pub live_setup : Options → (ℕ → List ℕ) → List MidiEvent → Live
-live_setup o change es = record { setup = record { dumps = []; channels = sounding_parts o es; program = o.program }; is_retuned = is_part o; change = change }
+live_setup o change es = record { setup = record { dumps = []; channels = parts_with_notes o es; program = o.program }; is_retuned = is_part o; change = change }
 
 abbrev pub told_live : Options → (ℕ → List ℕ) → List MidiEvent → List MidiEvent
 told_live o change es = through_ports

@@ -7,7 +7,7 @@ use Rattle.midi_model.specs.Params.{pair_eq}
 use Rattle.midi_model.specs.Channel.{Selection, Role, EntryHigh, EntryLow, role}
 use Rattle.midi_model.specs.Notes.{Note, sounds}
 use Rattle.midi_model.specs.Music.{Music, channel_at}
-use Rattle.retune_model.specs.Table.{Scaling, Bounds, BendTarget, bend_target, tuning_target}
+use Rattle.retune_model.specs.Table.{Bounds, BendTarget, bend_target, tuning_target}
 use Rattle.retune_model.specs.Options.{Route, ByDump, ByLive, ByBend, ByMpe, Options, bends_notes, is_retuned}
 use Rattle.retune_model.specs.PlaysTheSame.{bend_target_if}
 
@@ -130,7 +130,3 @@ is_poly o _ = false
 abbrev pub first_that : List (Kind × Bool) → Option Kind
 first_that [] = None
 first_that (x ∷ xs) = if x.1 then Some x.0 else first_that xs
-
--- A table gives a key one bracket wherever the same scale is in force.
-abbrev pub IsOnePerScale : Scaling → Targets → Type 0
-IsOnePerScale scaling table = (key s t : ℕ) → scaling.scale_at s ≡ scaling.scale_at t → table key s ≡ table key t

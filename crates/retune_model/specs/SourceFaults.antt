@@ -113,11 +113,12 @@ abbrev pub placed_at : ℕ → MidiEvent → (Kind → Option (ℤ × ℤ)) → 
 placed_at k e bend None = None
 placed_at k e bend (Some kind) = Some (record { position = k; tick = e.tick; track = e.track; kind = kind; bend = bend kind })
 
--- es are the events of the file, of which e stands behind the first k, and port is the port of e
+-- the kind of fault of event k + 1, which is e; port is its port, and ports says whether it breaks a rule of ports
 abbrev pub kind_behind : Options → Targets → Bool → PortEvents → ℕ → MidiEvent → Option Kind
 kind_behind o table ports port k e =
     kind_in port.number o table e.tick (music_at port.events k) (music_at port.events (suc k)) ports (pairs_at o (is_part o) table port (suc k)) e.what
 
+-- es are the events of the file, of which e stands behind the first k, and port is the port of e
 abbrev pub fault_behind : Options → Targets → List MidiEvent → PortEvents → ℕ → MidiEvent → Option Fault
 fault_behind o table es port k e =
     placed_at (suc k) e (λ kind. bend_of port.number o (music_at port.events (suc k)) (pairs_at o (is_part o) table port (suc k)) kind e.what)
@@ -182,7 +183,8 @@ AreFine o table port = AllByRecursion (λ n. (k : ℕ) → n.position ≡ suc k 
 abbrev pub BreakNoPorts : List MidiEvent → Type 0
 BreakNoPorts es = (k : ℕ) (e : MidiEvent) (later : List MidiEvent) → drop k es ≡ e ∷ later → breaks_ports (take k es) e ≡ false
 
--- The events of one port in turn, m being the music before them: none has a fault by the music of the port, whatever pairs there are.
+-- The events of one port in turn, m being the music before them: none has a fault by the music of the port, whatever pairs there are. So
+-- it is on the routes on which no fault looks at pairs; on bend no message of a retuned part is such an event.
 abbrev pub FineInTurn : Options → Targets → Music → List MidiEvent → Type 0
 FineInTurn o table m [] = Unit {0}
 FineInTurn o table m (e ∷ es) = ((pairs : List Pair) → kind_in 0 o table e.tick m (step m e) false pairs e.what ≡ None) × FineInTurn o table (step m e) es

@@ -48,6 +48,10 @@ Bound terms ratios _ _ = ⊥
 pub record IsTable (s : Scaling) (table : ℕ → ℕ → Option Bounds) : Type 0 where
   pub bounds : (key onset : ℕ) → key ≤ 127 → Bound (terms_at s key onset) (ratios_at_key s key onset) (pitch_at s key onset) (table key onset)
 
+-- A table gives a key the same bounds wherever the same scale is in force.
+abbrev pub IsOnePerScale : Scaling → (ℕ → ℕ → Option Bounds) → Type 0
+IsOnePerScale s table = (key a b : ℕ) → s.scale_at a ≡ s.scale_at b → table key a ≡ table key b
+
 -- every key's pitch has at most 1,700 terms, so its bounds are at most a thousandth of a cent apart
 abbrev pub AreFewTerms : Scaling → Type 0
 AreFewTerms s = (key onset : ℕ) → key ≤ 127 → terms_at s key onset ≤ 1700
