@@ -5,7 +5,7 @@ cd "$(dirname "$0")/.." || exit 1
 {
     echo crates.txt
     awk -f tools/needed.awk crates.txt | while read -r _ crate; do
-        find "crates/$crate" -name out -prune -o -name must-fail -prune -o -type f ! -name tests.rt \
-            \( -name '*.rt' -o -name '*.antt' \) -print
+        find "crates/$crate" \( -name out -o -name must-fail -o -path '*/src/tests' \) -prune -o \
+            -type f ! -name tests.rt \( -name '*.rt' -o -name '*.antt' \) -print
     done | LC_ALL=C sort
 } | xargs sha256sum | sha256sum | cut -d ' ' -f 1
