@@ -1,7 +1,9 @@
--- Places of runs, as an assignment of channels gives them, and what that costs. This project's own.
+-- Assignments of channels to runs, and what they cost. This project's own.
 --
--- A place is one of the first channels that are allowed. Each run keeps the place that it has.
-use Rattle.std.specs.Prelude.{ℕ, zero, suc, ◌+◌, ◌≢◌, ◌<◌, ◌≤◌, nat_eq, cond, List, [], ◌∷◌, Option, Some, None, IsSome}
+-- An assignment gives each run a channel, which it keeps. A channel may have any number.
+use Rattle.std.specs.Prelude.{ℕ, zero, suc, ◌+◌, ◌≢◌, ◌<◌, ◌≤◌, nat_eq, cond, List, [], ◌∷◌, map, Option, Some, None, IsSome}
+use Rattle.std.specs.List.{range_with_len}
+use Rattle.std.specs.Set.{distinct_count}
 use Rattle.least_replay.specs.Cover.{Table, cost_at}
 
 -- run b has the positions from `first b` to `last b`
@@ -15,29 +17,29 @@ pub record AreRuns (t : Table) (first last : ℕ → ℕ) : Type 0 where
   pub some_position : (b : ℕ) → b < t.runs → first b ≤ last b
   pub follows : (a b : ℕ) → a < b → b < t.runs → last a < first b → IsSome (t.after a b)
 
--- runs with a common position have different places, and there are no more places than starts
-pub record IsAssignment (t : Table) (first last place : ℕ → ℕ) : Type 0 where
-  pub within : (b : ℕ) → b < t.runs → place b < t.starts
-  pub apart : (a b p : ℕ) → a < t.runs → b < t.runs → a ≢ b → HasPosition first last a p → HasPosition first last b p → place a ≢ place b
+-- there are no more channels than starts, and runs with a common position have different channels
+pub record IsAssignment (t : Table) (first last channel : ℕ → ℕ) : Type 0 where
+  pub few : distinct_count nat_eq (map channel (range_with_len 0 t.runs)) ≤ t.starts
+  pub apart : (a b p : ℕ) → a < t.runs → b < t.runs → a ≢ b → HasPosition first last a p → HasPosition first last b p → channel a ≢ channel b
 
--- of the first n runs the last one on a place
+-- of the first n runs the last one on a channel
 abbrev pub last_on : (ℕ → ℕ) → ℕ → ℕ → Option ℕ
-last_on place c zero = None
-last_on place c (suc n) = cond (nat_eq (place n) c) (Some n) (last_on place c n)
+last_on channel c zero = None
+last_on channel c (suc n) = cond (nat_eq (channel n) c) (Some n) (last_on channel c n)
 
--- the run right before b on its place
+-- the run right before b on its channel
 abbrev pub before_on : (ℕ → ℕ) → ℕ → Option ℕ
-before_on place b = last_on place (place b) b
+before_on channel b = last_on channel (channel b) b
 
 -- the same for n runs from b on
 abbrev pub chains_from : (ℕ → ℕ) → ℕ → ℕ → List (Option ℕ)
-chains_from place b zero = []
-chains_from place b (suc n) = before_on place b ∷ chains_from place (suc b) n
+chains_from channel b zero = []
+chains_from channel b (suc n) = before_on channel b ∷ chains_from channel (suc b) n
 
--- what n runs from b on cost, each behind the last one on its place, or at a start where there was none
+-- what n runs from b on cost, each behind the last one on its channel, or at a start where there was none
 abbrev pub cost_from : Table → (ℕ → ℕ) → ℕ → ℕ → ℕ
-cost_from t place b zero = 0
-cost_from t place b (suc n) = cost_at t b (before_on place b) + cost_from t place (suc b) n
+cost_from t channel b zero = 0
+cost_from t channel b (suc n) = cost_at t b (before_on channel b) + cost_from t channel (suc b) n
 
 abbrev pub assignment_cost : Table → (ℕ → ℕ) → ℕ
-assignment_cost t place = cost_from t place 0 t.runs
+assignment_cost t channel = cost_from t channel 0 t.runs

@@ -5,4 +5,4 @@ pub returns-clause-cover : goal.returns-clause-cover
 returns-clause-cover c = assignment_cover
 
 pub returns-clause-cost : goal.returns-clause-cost
-returns-clause-cost c = λ t place. cost_is_price t place 0 t.runs
+returns-clause-cost c = λ t channel. cost_is_price t channel 0 t.runs
