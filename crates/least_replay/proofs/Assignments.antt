@@ -20,10 +20,10 @@ both_ways false false f g = refl
 not_same : (a b : ℕ) → a ≢ b → nat_eq a b ≡ false
 not_same a b d = grind (arith, nat_tests)
 
-at_last : (channel : ℕ → ℕ) (c n : ℕ) → channel n ≡ c → last_on channel c (suc n) ≡ Some n
+pub at_last : (channel : ℕ → ℕ) (c n : ℕ) → channel n ≡ c → last_on channel c (suc n) ≡ Some n
 at_last channel c n e = let t : nat_eq (channel n) c ≡ true = grind (arith, nat_tests) in rw t refl
 
-not_last : (channel : ℕ → ℕ) (c n : ℕ) → channel n ≢ c → last_on channel c (suc n) ≡ last_on channel c n
+pub not_last : (channel : ℕ → ℕ) (c n : ℕ) → channel n ≢ c → last_on channel c (suc n) ≡ last_on channel c n
 not_last channel c n d = let t : nat_eq (channel n) c ≡ false = grind (arith, nat_tests) in rw t refl
 
 -- what is found is on the channel, and no later one is
@@ -55,7 +55,7 @@ none_found channel c (suc n) h x l = elim (same_or_not (channel n) c) [
   ]
 ]
 
-chains_length : (channel : ℕ → ℕ) (b n : ℕ) → length (chains_from channel b n) ≡ n
+pub chains_length : (channel : ℕ → ℕ) (b n : ℕ) → length (chains_from channel b n) ≡ n
 chains_length channel b zero = refl
 chains_length channel b (suc n) = omega (arith, chains_length channel (suc b) n)
 

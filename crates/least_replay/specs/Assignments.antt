@@ -1,21 +1,22 @@
 -- Assignments of channels to runs, and what they cost. This project's own.
 --
 -- An assignment gives each run a channel, which it keeps. A channel may have any number.
-use Rattle.std.specs.Prelude.{ℕ, zero, suc, ◌+◌, ◌≢◌, ◌<◌, ◌≤◌, nat_eq, cond, List, [], ◌∷◌, map, Option, Some, None, IsSome}
+use Rattle.std.specs.Prelude.{ℕ, zero, suc, ◌+◌, ◌≢◌, ◌<◌, ◌≤◌, nat_eq, cond, List, [], ◌∷◌, map, get_or, take, Option, Some, None, IsSome, option_map, unwrap_or}
 use Rattle.std.specs.List.{range_with_len}
 use Rattle.std.specs.Set.{distinct_count}
-use Rattle.least_replay.specs.Cover.{Table, cost_at}
+use Rattle.least_replay.specs.Cover.{Table, starts_in, cost_at}
 
 -- run b has the positions from `first b` to `last b`
 abbrev pub HasPosition : (ℕ → ℕ) → (ℕ → ℕ) → ℕ → ℕ → Type 0
 HasPosition first last b p = (first b ≤ p) × (p ≤ last b)
 
--- Runs are numbered in the order in which they begin, and a run may come right before another where it ends before that
--- one begins
+-- Runs are numbered in the order in which they begin, and a run may come right before another exactly where it ends before
+-- that one begins
 pub record AreRuns (t : Table) (first last : ℕ → ℕ) : Type 0 where
   pub ordered : (a b : ℕ) → a < b → b < t.runs → first a ≤ first b
   pub some_position : (b : ℕ) → b < t.runs → first b ≤ last b
   pub follows : (a b : ℕ) → a < b → b < t.runs → last a < first b → IsSome (t.after a b)
+  pub only : (a b : ℕ) → a < t.runs → b < t.runs → IsSome (t.after a b) → last a < first b
 
 -- there are no more channels than starts, and runs with a common position have different channels
 pub record IsAssignment (t : Table) (first last channel : ℕ → ℕ) : Type 0 where
@@ -43,3 +44,12 @@ cost_from t channel b (suc n) = cost_at t b (before_on channel b) + cost_from t 
 
 abbrev pub assignment_cost : Table → (ℕ → ℕ) → ℕ
 assignment_cost t channel = cost_from t channel 0 t.runs
+
+-- the run that starts the chain of run b, where it is at most n steps back
+abbrev pub start_of : List (Option ℕ) → ℕ → ℕ → ℕ
+start_of before zero b = b
+start_of before (suc n) b = unwrap_or (option_map (start_of before n) (get_or before b None)) b
+
+-- the place of that start among all starts, in their order, as the channel of run b
+abbrev pub chain_of : List (Option ℕ) → ℕ → ℕ
+chain_of before b = starts_in (take (start_of before b b) before)
