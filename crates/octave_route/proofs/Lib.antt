@@ -1,0 +1,6 @@
+pub mod Numbers
+pub mod Values
+pub mod Written
+pub mod Keys
+pub mod Own
+pub mod Fit

@@ -1,0 +1,14 @@
+//! Octave tuning by the MIDI Tuning Standard 1.0: the values of the twelve classes of keys, and the
+//! message of two bytes a value, not in real time, that sets them, written and read. The bytes of a
+//! message are those after F0, with F7 at the end. Nothing here takes memory.
+#![tactic(auto)]
+
+mod fitting;
+mod laws;
+mod messages;
+#[cfg(test)]
+mod tests;
+
+pub use fitting::{OctaveFault, classes};
+pub use laws::written_is_read;
+pub use messages::{message, read_octave};
