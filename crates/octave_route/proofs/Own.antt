@@ -28,4 +28,4 @@ lo_within (Some k) b e narrow =
 
 pub own_is : (t : KeyTable) (key : ℕ) (b : Bracket) (q : ℤ) → bounds_if (Some b) ≡ table_of t key → q ≡ int_div_euclid ((b.lo.0 -ℤ pos key *ℤ pos 3200000000000) +ℤ pos 195312500) (pos 390625000)
     → pos 8192 +ℤ q ≡ own_value (table_of t) key
-own_is t key b q e is = ap (λ x. pos 8192 +ℤ x) is ∙ ap (λ o. option_map_or (nearest_value key) o (pos 8192)) e
+own_is t key b q e is = ap (λ x. pos 8192 +ℤ x) is ∙ ap (λ o. option_map_or (λ x. nearest_value key x.lo) o (pos 8192)) e

@@ -18,12 +18,12 @@ abbrev pub AreMapped : (ℕ → Option Bounds) → ℕ → Type 0
 AreMapped table used = (key : ℕ) → key ≤ 127 → is_used used key ≡ true → table key ≢ None
 
 -- the nearest step to a pitch, 8192 being the equal-tempered pitch of the key: 390,625,000 grains are a step
-abbrev pub nearest_value : ℕ → Bounds → ℤ
-nearest_value key b = pos 8192 +ℤ int_div_euclid ((b.lo -ℤ pos key *ℤ pos 3200000000000) +ℤ pos 195312500) (pos 390625000)
+abbrev pub nearest_value : ℕ → ℤ → ℤ
+nearest_value key lo = pos 8192 +ℤ int_div_euclid ((lo -ℤ pos key *ℤ pos 3200000000000) +ℤ pos 195312500) (pos 390625000)
 
--- a key's own value (that of a key without a pitch is never asked for)
+-- a key's own value, from the lower end of its bounds (that of a key without a pitch is never asked for)
 abbrev pub own_value : (ℕ → Option Bounds) → ℕ → ℤ
-own_value table key = option_map_or (nearest_value key) (table key) (pos 8192)
+own_value table key = option_map_or (λ b. nearest_value key b.lo) (table key) (pos 8192)
 
 -- whether a key is of a class, and used
 abbrev pub is_of_class : ℕ → ℕ → ℕ → Bool

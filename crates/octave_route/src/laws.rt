@@ -1,6 +1,8 @@
-ghost use Rattle.std.specs.Prelude.{◌≡◌, ◌≤◌, ℕ, Bool, true};
+ghost use Rattle.std.specs.Prelude.{◌≡◌, ◌≤◌, ℕ, pos, negsuc, Bool, nat_eq, take, replicate, [], ◌∷◌};
 ghost use Rattle.retune_model.specs.Octave.{has_bit};
-ghost use Rattle.octave_route.specs.Messages.{WrittenIsRead, as_number};
+ghost use Rattle.octave_route.specs.Messages.{WrittenIsRead, as_number, octave_bytes};
+ghost use Rattle.octave_route.specs.Classes.{nearest_value, class_value};
+ghost use Rattle.octave_route.specs.Examples.{rising, two_keys};
 
 /// The law that what is written is read as what was written, for every set of channels and all values;
 /// and that the number of a set of channels has a bit for each channel that is in the set, and no other.
@@ -8,4 +10,22 @@ pub fn written_is_read()
     ensures again { WrittenIsRead }
     ensures bits { (named : ℕ → Bool) (c : ℕ) → c ≤ 15 → has_bit c (as_number 16 named) ≡ named c }
     ensures range { (named : ℕ → Bool) → as_number 16 named ≤ 65535 }
+{}
+
+/// Values of key 60 by the lower end of its pitch in grains: level; half a step is rounded up; the least
+/// and the greatest value, and one grain beyond each. A class has the value of its least used key, and is
+/// level where no key is used. Channels 1, 8, 15 and 16 as a number, and in the bytes of a message.
+pub fn octave_examples()
+    ensures level { nearest_value 60 (pos 192000000000000) ≡ pos 8192 }
+    ensures half { nearest_value 60 (pos 192000195312500) ≡ pos 8193 }
+    ensures below_half { nearest_value 60 (pos 192000195312499) ≡ pos 8192 }
+    ensures least { nearest_value 60 (pos 188799804687500) ≡ pos 0 }
+    ensures too_low { nearest_value 60 (pos 188799804687499) ≡ negsuc 0 }
+    ensures greatest { nearest_value 60 (pos 195199804687499) ≡ pos 16383 }
+    ensures too_high { nearest_value 60 (pos 195199804687500) ≡ pos 16384 }
+    ensures least_key { class_value rising two_keys 9 ≡ pos 8249 }
+    ensures no_key { class_value rising two_keys 8 ≡ pos 8192 }
+    ensures channel_16 { as_number 16 (λ c. nat_eq c 15) ≡ 32768 }
+    ensures channels { take 7 (octave_bytes 49281 (replicate 12 8192))
+        ≡ 0x7e ∷ 0x7f ∷ 0x08 ∷ 0x09 ∷ 0x03 ∷ 0x01 ∷ 0x01 ∷ [] }
 {}
