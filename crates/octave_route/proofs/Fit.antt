@@ -10,6 +10,7 @@ use Rattle.std.proofs.lemmas.Int.{ints}
 use Rattle.retune_model.specs.Scale.{size_of}
 use Rattle.retune_model.specs.Table.{Bounds}
 use Rattle.octave_route.specs.declared.fitting.OctaveFault.{OctaveFault}
+use Rattle.octave_route.specs.declared.fitting.OctaveFault.TheVariants.{Out, Unfit}
 use Rattle.octave_route.specs.Messages.{IsOctaveValue}
 use Rattle.octave_route.specs.Classes.{is_used, own_value, class_value, is_value, FitsClass, FitBelow, IsUnfit, key_of, Refuses}
 
@@ -52,3 +53,12 @@ fits table used key own class owned classed value small = record {
   value = ap is_value (sym owned) ∙ value;
   near = (let P : ℤ → Type 0 = λ z. size_of z ≤ 1 in subst P (ap (λ z. z -ℤ class) owned ∙ ap (λ z. own_value table key -ℤ z) classed) (near (own -ℤ class) small));
 }
+
+-- where a key is refused, not all used keys fit
+pub not_all_fit : (table : ℕ → Option Bounds) (used : ℕ) (fault : OctaveFault) → Refuses table used fault → FitBelow table used 128 → ⊥
+not_all_fit table used (Out key) r all =
+    let fit = all key (omega (arith, r.high)) r.wanted in
+    let clash : true ≡ false = sym fit.value ∙ r.cause in cc
+not_all_fit table used (Unfit key) r all =
+    let fit = all key (omega (arith, r.high)) r.wanted in
+    omega (arith, r.cause.1, fit.near)

@@ -4,3 +4,4 @@ pub mod Written
 pub mod Keys
 pub mod Own
 pub mod Fit
+pub mod Least

@@ -33,6 +33,13 @@ is_of_class used class key = nat_eq (key % 12) class && is_used used key
 unfoldable pub least_used : ℕ → ℕ → Option ℕ
 least_used used class = find (is_of_class used class) (range_with_len 0 128)
 
+-- The same as a relation: a used key of the class, below which none of the class is used.
+pub record IsLeastUsed (used class key : ℕ) : Type 0 where
+  pub high : key ≤ 127
+  pub of_class : key % 12 ≡ class
+  pub wanted : is_used used key ≡ true
+  pub least : (k : ℕ) → k < key → k % 12 ≡ class → is_used used k ≡ false
+
 -- the value of a class is the own value of its least used key, and 8192 where none is used
 abbrev pub class_value : (ℕ → Option Bounds) → ℕ → ℕ → ℤ
 class_value table used class = option_map_or (own_value table) (least_used used class) (pos 8192)

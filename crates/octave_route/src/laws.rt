@@ -1,7 +1,11 @@
-ghost use Rattle.std.specs.Prelude.{◌≡◌, ◌≤◌, ℕ, pos, negsuc, Bool, nat_eq, take, replicate, [], ◌∷◌};
+ghost use Rattle.std.specs.Prelude.{◌≡◌, ◌≤◌, ◌%◌, ℕ, pos, negsuc, Bool, false, nat_eq};
+ghost use Rattle.std.specs.Prelude.{take, replicate, [], ◌∷◌, Option, Some, None};
+ghost use Rattle.retune_model.specs.Table.{Bounds};
 ghost use Rattle.retune_model.specs.Octave.{has_bit};
 ghost use Rattle.octave_route.specs.Messages.{WrittenIsRead, as_number, octave_bytes};
 ghost use Rattle.octave_route.specs.Classes.{nearest_value, class_value};
+ghost use Rattle.octave_route.specs.Classes.{is_used, least_used, IsLeastUsed, Refuses, FitBelow};
+ghost use Rattle.octave_route.specs.declared.fitting.OctaveFault.{OctaveFault};
 ghost use Rattle.octave_route.specs.Examples.{rising, two_keys};
 
 /// The law that what is written is read as what was written, for every set of channels and all values;
@@ -10,6 +14,18 @@ pub fn written_is_read()
     ensures again { WrittenIsRead }
     ensures bits { (named : ℕ → Bool) (c : ℕ) → c ≤ 15 → has_bit c (as_number 16 named) ≡ named c }
     ensures range { (named : ℕ → Bool) → as_number 16 named ≤ 65535 }
+{}
+
+/// Laws of classes: the least used key of a class is one that is used, below which no key of the class is
+/// used, and there is none where no key of the class is used. Where a key is refused, not all used keys
+/// fit.
+pub fn class_laws()
+    ensures least { (used class key : ℕ) → least_used used class ≡ Some key
+        → IsLeastUsed used class key }
+    ensures none { (used class : ℕ) → least_used used class ≡ None
+        → (key : ℕ) → key ≤ 127 → key % 12 ≡ class → is_used used key ≡ false }
+    ensures refused { (table : ℕ → Option Bounds) (used : ℕ) (fault : OctaveFault)
+        → Refuses table used fault → ¬ FitBelow table used 128 }
 {}
 
 /// Values of key 60 by the lower end of its pitch in grains: level; half a step is rounded up; the least

@@ -10,5 +10,5 @@ mod messages;
 mod tests;
 
 pub use fitting::{OctaveFault, classes};
-pub use laws::{octave_examples, written_is_read};
+pub use laws::{class_laws, octave_examples, written_is_read};
 pub use messages::{message, read_octave};
