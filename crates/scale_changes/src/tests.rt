@@ -7,8 +7,8 @@ use std::test::Fail;
 
 /// What a list is read as.
 #[derive(Clone, Copy)]
-enum Wanted<'a> {
-    Changes(&'a [(u32, &'a [u8])]),
+enum Wanted {
+    Changes(&'static [(u32, &'static [u8])]),
     At(u32, u8),
 }
 
@@ -24,7 +24,7 @@ fn are(changes: &[(u32, &str)], wanted: &[(u32, &[u8])]) -> bool {
     true
 }
 
-fn agrees(answer: &Result<Vec<(u32, &str)>, ListFault>, wanted: &Wanted<'_>) -> bool {
+fn agrees(answer: &Result<Vec<(u32, &str)>, ListFault>, wanted: &Wanted) -> bool {
     match (answer, wanted) {
         (Ok(changes), Wanted::Changes(others)) => are(changes.as_slice(), others),
         (Err(ListFault::At { line, kind }), Wanted::At(at, number)) => {
@@ -45,47 +45,49 @@ fn read(alloc: Global, text: &[u8]) -> Result<Vec<(u32, &str)>, ListFault> {
 const SIXTEEN: &[u8] =
     b"1 a\n2 a\n3 a\n4 a\n5 a\n6 a\n7 a\n8 a\n9 a\n10 a\n11 a\n12 a\n13 a\n14 a\n15 a\n16 a\n";
 
+/// Texts, and what each is read as.
+const LISTS: [(&[u8], Wanted); 25] = [
+    (b"480 j12.scl", Wanted::Changes(&[(480, b"j12.scl")])),
+    // the same tick twice
+    (b"480 a\n480 b\n", Wanted::At(2, 2)),
+    (b"480 a\n479 b\n", Wanted::At(2, 2)),
+    (
+        b"480 a\n481 b\n",
+        Wanted::Changes(&[(480, b"a"), (481, b"b")]),
+    ),
+    // nothing, comments, lines of blanks alone
+    (b"", Wanted::Changes(&[])),
+    (b"! none\n\n \t\n", Wanted::Changes(&[])),
+    (
+        b"! x\r\n\r\n\t 007 \t!scale~ \t\r\n \r\n8\tb\r\n",
+        Wanted::Changes(&[(7, b"!scale~"), (8, b"b")]),
+    ),
+    // ticks
+    (b"x", Wanted::At(1, 1)),
+    (b"-1 a", Wanted::At(1, 1)),
+    (b"! x\n\n0 a", Wanted::At(3, 1)),
+    (b"268435456 a", Wanted::At(1, 1)),
+    (b"99999999999999999999 a", Wanted::At(1, 1)),
+    (b"268435455 a", Wanted::Changes(&[(268_435_455, b"a")])),
+    // names
+    (b"1", Wanted::At(1, 3)),
+    (b"1 ", Wanted::At(1, 3)),
+    (b"1a", Wanted::At(1, 3)),
+    (b"1 a b", Wanted::At(1, 3)),
+    (b"1 \x7f", Wanted::At(1, 3)),
+    (b"1 a\xc3\xa9", Wanted::At(1, 3)),
+    (b"1 a\x00", Wanted::At(1, 3)),
+    // several kinds on one line
+    (b"5 a\n0", Wanted::At(2, 1)),
+    (b"5 a\n5", Wanted::At(2, 2)),
+    (b"5 a\n6\n", Wanted::At(2, 3)),
+    (b"1 a\n! no change\n2", Wanted::At(3, 3)),
+    (b"1 a\n1 b\nx", Wanted::At(2, 2)),
+];
+
 #[test]
 fn reads_each_list(rt: HostRuntime) -> Result<(), Fail> {
-    let table: [(&[u8], Wanted<'_>); 25] = [
-        (b"480 j12.scl", Wanted::Changes(&[(480, b"j12.scl")])),
-        // the same tick twice
-        (b"480 a\n480 b\n", Wanted::At(2, 2)),
-        (b"480 a\n479 b\n", Wanted::At(2, 2)),
-        (
-            b"480 a\n481 b\n",
-            Wanted::Changes(&[(480, b"a"), (481, b"b")]),
-        ),
-        // nothing, comments, lines of blanks alone
-        (b"", Wanted::Changes(&[])),
-        (b"! none\n\n \t\n", Wanted::Changes(&[])),
-        (
-            b"! x\r\n\r\n\t 007 \t!scale~ \t\r\n \r\n8\tb\r\n",
-            Wanted::Changes(&[(7, b"!scale~"), (8, b"b")]),
-        ),
-        // ticks
-        (b"x", Wanted::At(1, 1)),
-        (b"-1 a", Wanted::At(1, 1)),
-        (b"! x\n\n0 a", Wanted::At(3, 1)),
-        (b"268435456 a", Wanted::At(1, 1)),
-        (b"99999999999999999999 a", Wanted::At(1, 1)),
-        (b"268435455 a", Wanted::Changes(&[(268_435_455, b"a")])),
-        // names
-        (b"1", Wanted::At(1, 3)),
-        (b"1 ", Wanted::At(1, 3)),
-        (b"1a", Wanted::At(1, 3)),
-        (b"1 a b", Wanted::At(1, 3)),
-        (b"1 \x7f", Wanted::At(1, 3)),
-        (b"1 a\xc3\xa9", Wanted::At(1, 3)),
-        (b"1 a\x00", Wanted::At(1, 3)),
-        // several kinds on one line
-        (b"5 a\n0", Wanted::At(2, 1)),
-        (b"5 a\n5", Wanted::At(2, 2)),
-        (b"5 a\n6\n", Wanted::At(2, 3)),
-        (b"1 a\n! no change\n2", Wanted::At(3, 3)),
-        (b"1 a\n1 b\nx", Wanted::At(2, 2)),
-    ];
-    for (text, wanted) in table.iter() {
+    for (text, wanted) in LISTS.iter() {
         assert!(rt; agrees(&read(rt.alloc(), text), wanted));
     }
     Ok(())
