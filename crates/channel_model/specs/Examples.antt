@@ -3,7 +3,8 @@ use Rattle.std.specs.Prelude.{ℕ, false, zero, suc, ℤ, pos, negsuc, List, [],
 use Rattle.mt_base.specs.declared.event.Msg.{Msg}
 use Rattle.mt_base.specs.declared.event.Msg.TheVariants.{NoteOn, NoteOff, Program}
 use Rattle.mt_base.specs.Midi.{MidiEvent}
-use Rattle.midi_model.specs.Examples.{at, registered}
+use Rattle.midi_model.specs.Examples.{at}
+use Rattle.midi_model.specs.Bring.{registered}
 use Rattle.retune_model.specs.Ports.{port_at}
 use Rattle.retune_model.specs.Faults.{Targets}
 use Rattle.retune_model.specs.Pairs.{Pair}

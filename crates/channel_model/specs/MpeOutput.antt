@@ -8,7 +8,7 @@ use Rattle.mt_base.specs.declared.event.Msg.TheVariants.{NoteOn, NoteOff, KeyPre
 use Rattle.mt_base.specs.Midi.{MidiWhat, Says, SysexOf, MetaOf, MidiEvent, channel_of}
 use Rattle.midi_model.specs.Sysex.{Doing, Plays, Resets, doing}
 use Rattle.midi_model.specs.Music.{Music, quiet, play, step, channel_at}
-use Rattle.midi_model.specs.Bring.{where_differs}
+use Rattle.midi_model.specs.Bring.{where_differs, registered}
 use Rattle.retune_model.specs.Table.{BendTarget}
 use Rattle.retune_model.specs.Options.{Options}
 use Rattle.retune_model.specs.Ports.{Numbered}
@@ -60,10 +60,6 @@ abbrev pub upper_allowed : Bool → ℕ
 upper_allowed drums = if drums then 5 else 14
 
 -- ---- what sets them
-
--- a registered parameter's high byte is set, and nothing left selected
-abbrev pub registered : ℕ → ℕ → ℕ → List Msg
-registered c low v = Control c 101 0 ∷ Control c 100 low ∷ Control c 6 v ∷ Control c 101 127 ∷ Control c 100 127 ∷ []
 
 abbrev pub range_each : ℕ → List ℕ → List Msg
 range_each range [] = []

@@ -2,7 +2,8 @@
 
 ghost use Rattle.std.specs.Prelude.{◌≡◌, ◌++◌, ℕ, true, false, List, [], ◌∷◌, map, pos};
 ghost use Rattle.mt_base.specs.declared.event.Msg.TheVariants.{NoteOn, NoteOff, Control, Program, Bend};
-ghost use Rattle.midi_model.specs.Examples.{at, all_at, sysex, general_midi_on, registered};
+ghost use Rattle.midi_model.specs.Examples.{at, all_at, sysex, general_midi_on};
+ghost use Rattle.midi_model.specs.Bring.{registered};
 ghost use Rattle.retune_model.specs.Examples.{equal_table, just_table, resting, bend_options, needed, counts, end_at, one_note, chord, taken_over, reset_between, wheel, one_after_other, port_event, in_track, two_ports, ends_in};
 ghost use Rattle.channel_model.specs.Rows.{used_row};
 ghost use Rattle.channel_model.specs.MpeOutput.{zones_for, lower_allowed, members_from};

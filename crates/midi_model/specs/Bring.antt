@@ -55,6 +55,10 @@ abbrev pub closed : ℕ → List Msg → List Msg
 closed c [] = []
 closed c (m ∷ ms) = (m ∷ ms) ++ Control c 101 127 ∷ Control c 100 127 ∷ []
 
+-- a registered parameter's high byte is set, and nothing left selected
+abbrev pub registered : ℕ → ℕ → ℕ → List Msg
+registered c low value = Control c 101 0 ∷ Control c 100 low ∷ Control c 6 value ∷ Control c 101 127 ∷ Control c 100 127 ∷ []
+
 -- each key pressure that differs, by key
 abbrev pub bring_keys : ℕ → ℕ → List ℕ → List ℕ → List Msg
 bring_keys c k (x ∷ xs) (y ∷ ys) = where_differs x y (KeyPressure c k y) ++ bring_keys c (k + 1) xs ys

@@ -10,6 +10,7 @@ use Rattle.midi_model.specs.Notes.{ending}
 use Rattle.midi_model.specs.Music.{Music, quiet, play, channel_at, state_at}
 use Rattle.midi_model.specs.Receiver.{after}
 use Rattle.midi_model.specs.Played.{played}
+use Rattle.midi_model.specs.Bring.{registered}
 use Rattle.midi_model.specs.TuningBytes.{select_of}
 
 abbrev pub at : ℕ → Msg → MidiEvent
@@ -59,10 +60,6 @@ zones_of es = (play quiet es).zones
 
 abbrev pub zones : ℕ → ℕ → Zones
 zones lower upper = record { lower = lower; upper = upper }
-
--- a parameter of a channel is selected, its high byte set, and nothing left selected
-abbrev pub registered : ℕ → ℕ → ℕ → List Msg
-registered c low value = Control c 101 0 ∷ Control c 100 low ∷ Control c 6 value ∷ Control c 101 127 ∷ Control c 100 127 ∷ []
 
 -- Two channels: the pedal of one holds its note over its release, until it goes up, and holds nothing on the other.
 abbrev pub two_channels : List MidiEvent

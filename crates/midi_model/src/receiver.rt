@@ -9,8 +9,8 @@ ghost use Rattle.midi_model.specs.Music.{quiet, play, channel_at};
 ghost use Rattle.midi_model.specs.Tuning.{selected_of};
 ghost use Rattle.midi_model.specs.Receiver.{after};
 ghost use Rattle.midi_model.specs.ReceiverLaws.{OneNoteSoundsOnAKey, ZonesStayApart, NotesEndInTime, MusicIsAlone, TuningIsKept, MusicIsAloneAlways};
-ghost use Rattle.midi_model.specs.Bring.{bring, apply_all};
-ghost use Rattle.midi_model.specs.Examples.{at, all_at, sysex, sysex_with, ends, releases, programs, pressures, pitches, controller_at, state_of, state_after, bend_ranges_of, zones_of, zones, registered, parameter_at_65, two_channels, struck_again, struck_while_down, sostenuto_down, sostenuto_up, released_by_zero, reset_between, wheel_set, wheel_reset, all_set, all_left, zone, on_member, stirred, ResetsAll, ChangesNothing, dump, change, tuned, tuned_with, voiced, ranged_only, fine_tuned};
+ghost use Rattle.midi_model.specs.Bring.{bring, apply_all, registered};
+ghost use Rattle.midi_model.specs.Examples.{at, all_at, sysex, sysex_with, ends, releases, programs, pressures, pitches, controller_at, state_of, state_after, bend_ranges_of, zones_of, zones, parameter_at_65, two_channels, struck_again, struck_while_down, sostenuto_down, sostenuto_up, released_by_zero, reset_between, wheel_set, wheel_reset, all_set, all_left, zone, on_member, stirred, ResetsAll, ChangesNothing, dump, change, tuned, tuned_with, voiced, ranged_only, fine_tuned};
 
 /// Pedals and notes that are struck again, by example: the tick at which each note ended, in the order of note ons.
 pub fn pedal_examples()

@@ -1,6 +1,6 @@
 -- The pitch that a scale and a keyboard mapping give to a key (the Scala file formats, in this project's profile): without
 -- logarithms, by sums of ratios and of whole grains.
-use Rattle.std.specs.Prelude.{◌≡◌, ℕ, zero, suc, ◌+◌, ◌-◌, ◌*◌, ◌/◌, ◌%◌, ◌^◌, ◌⊎◌, ℤ, pos, negsuc, ◌-ℤ◌, ◌*ℤ◌, List, [], ◌∷◌, ◌++◌, Bool, ◌&&◌, nat_eq, nat_le, if◌then◌else◌, Option, Some, None, is_some, length, get_or}
+use Rattle.std.specs.Prelude.{◌≡◌, ℕ, zero, suc, ◌+◌, ◌-◌, ◌*◌, ◌/◌, ◌%◌, ◌^◌, ◌⊎◌, ℤ, pos, negsuc, ◌-ℤ◌, ◌*ℤ◌, List, [], ◌∷◌, ◌++◌, Bool, ◌&&◌, nat_eq, nat_le, if◌then◌else◌, Option, Some, None, length, get_or}
 use Rattle.scl_text.specs.declared.entry.Entry.{Entry}
 use Rattle.scl_text.specs.declared.entry.Entry.TheVariants.{Ratio, Cents}
 use Rattle.kbm_text.specs.Map.{KeyMap}
@@ -54,11 +54,6 @@ above_middle scale m k =
     let size = length m.entries in
     if nat_eq size 0 then Some (pitch_of_degree scale (from_middle m k))
     else pitch_of_entry scale m (floor_div (from_middle m k) size) (get_or m.entries (floor_rem (from_middle m k) size) None)
-
--- Whether the reference key has a step of the scale, also where it is not from the first to the last key. A mapping whose
--- reference key has none is refused.
-abbrev pub has_reference : List Entry → KeyMap → Bool
-has_reference scale m = is_some (above_middle scale m m.reference)
 
 -- 6,900 cents and the reference frequency over 440 Hz
 abbrev pub reference_pitch : KeyMap → Pitch
