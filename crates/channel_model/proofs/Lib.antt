@@ -1,5 +1,6 @@
 pub mod Holding
 pub mod Free
+pub mod Tested
 pub mod Histories
 pub mod Bending
 pub mod Zoning

@@ -1,4 +1,5 @@
 pub mod Choice
+pub mod ChoiceTest
 pub mod Rows
 pub mod BendOutput
 pub mod MpeOutput

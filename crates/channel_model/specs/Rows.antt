@@ -1,6 +1,5 @@
 -- The used row of a port or of a zone: the channels that its runs are given; and the plan of a port (this project's own).
-use Rattle.std.specs.Prelude.{◌≡◌, ◌≤◌, ◌<◌, ◌⊎◌, ℕ, zero, suc, ◌+◌, List, [], ◌∷◌, Bool, true, false, ◌&&◌, nat_eq, filter, take, get_or, length, Option, Some, None}
-use Rattle.std.specs.Set.{is_member}
+use Rattle.std.specs.Prelude.{◌≡◌, ◌≤◌, ℕ, List, [], ◌∷◌, Bool, ◌&&◌, nat_eq, filter, take, get_or, length}
 use Rattle.mt_base.specs.Midi.{MidiEvent}
 use Rattle.retune_model.specs.Options.{Options, keeps_drums, is_retuned}
 use Rattle.retune_model.specs.Ports.{port_at, events_on}

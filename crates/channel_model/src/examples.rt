@@ -5,12 +5,16 @@ ghost use Rattle.mt_base.specs.declared.event.Msg.TheVariants.{NoteOn, NoteOff, 
 ghost use Rattle.midi_model.specs.Examples.{at, all_at, sysex, general_midi_on};
 ghost use Rattle.midi_model.specs.Bring.{registered};
 ghost use Rattle.retune_model.specs.Examples.{equal_table, just_table, resting, bend_options, needed, counts, end_at, one_note, chord, taken_over, reset_between, wheel, one_after_other, port_event, in_track, two_ports, ends_in};
+ghost use Rattle.retune_model.specs.Ports.{port_at};
+ghost use Rattle.channel_model.specs.Choice.{TakesShortest};
 ghost use Rattle.channel_model.specs.Rows.{used_row};
 ghost use Rattle.channel_model.specs.MpeOutput.{zones_for, lower_allowed, members_from};
 ghost use Rattle.channel_model.specs.Examples.{on_first, on_three, each_own, again, changed_after, second_again, first_again, all_first, setup, free_from, program_on, priced, bent, rested, ready, zoned};
 
+use crate::choice::tested_choice;
+
 /// The run of a part that begins again costs one message on the channel of the other part, and none on its own, which has been free
-/// for less long. While a note rests its channel is told of its part's program, and no more once the rest has run out.
+/// for less long: so it gets its own. While a note rests its channel is told of its part's program, and no more once the rest has run out.
 pub fn choice_examples()
     ensures need { needed bend_options again 0 ≡ (2, 3) }
     ensures counted { counts bend_options equal_table again 0 ≡ 0 ∷ 0 ∷ 1 ∷ 2 ∷ 1 ∷ 0 ∷ 1 ∷ 0 ∷ [] }
@@ -20,13 +24,17 @@ pub fn choice_examples()
     ensures own { setup 0 again second_again 1 1 5 ≡ 0 }
     ensures other_since { free_from again second_again 0 5 ≡ 4 }
     ensures own_since { free_from again second_again 1 5 ≡ 5 }
+    ensures chosen { TakesShortest (resting 0) equal_table (port_at again 0) 7 2 second_again }
+    ensures not_chosen { TakesShortest (resting 0) equal_table (port_at again 0) 7 2 first_again → ⊥ }
     ensures price_own { priced again second_again 7 ≡ 11 }
     ensures price_other { priced again first_again 7 ≡ 12 }
     ensures told { program_on 100 changed_after all_first 0 4 ≡ 5 }
     ensures long_told { program_on 200 changed_after all_first 0 4 ≡ 7 }
     ensures not_told { program_on 0 changed_after all_first 0 4 ≡ 0 }
     ensures brought { setup 100 changed_after all_first 1 0 4 ≡ 1 }
-{}
+{
+    tested_choice();
+}
 
 /// Outputs of the bend route, by example.
 pub fn bent_examples()

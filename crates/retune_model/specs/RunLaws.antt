@@ -1,10 +1,15 @@
 -- Laws of need, runs and assignments, over any sequence of sets of pairs in which at most one pair's run begins at each position.
 use Rattle.std.specs.Prelude.{◌≡◌, ◌<◌, ◌≤◌, ◌+◌, ℕ, suc, Bool, true, List, length, take}
+use Rattle.std.specs.Bool.{Decides}
 use Rattle.std.specs.List.{IsDistinct}
 use Rattle.std.specs.Set.{is_member}
 use Rattle.retune_model.specs.Pairs.{Pair, is_same_pair}
 use Rattle.retune_model.specs.Need.{IsNeed, ArePairs, IsValid, channels_used}
 use Rattle.retune_model.specs.Runs.{since, begins, OneBegins, TakesFree, TakesLowest, HoldUnbroken, place_of_note, HasRoom}
+
+-- the test of two pairs tells whether they are the same
+abbrev pub PairsAreTold : Type 0
+PairsAreTold = (p q : Pair) → Decides (is_same_pair p q) (p ≡ q)
 
 -- ---- need
 

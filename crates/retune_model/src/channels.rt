@@ -1,7 +1,7 @@
 //! Laws of pairs and channels, over any sequence of sets of pairs in which at most one pair's run begins at each position.
 
 ghost use Rattle.retune_model.specs.NeedLaws.{NoneHasFewer, FewerAreRefused, FreeOnesAreValid, FreeOnesAreAsMany, AllAreUsed, PairsStandOnce, NeedHasRoom, CountingFindsNeed};
-ghost use Rattle.retune_model.specs.RunLaws.{NeedIsDetermined, NoPositionHasMore, TooFewRefuse, WitnessIsThere, RunsHaveRoom, LowestIsFree, FreePlacesAreValid, FreePlacesAreAsMany, PlacesAreUsed};
+ghost use Rattle.retune_model.specs.RunLaws.{PairsAreTold, NeedIsDetermined, NoPositionHasMore, TooFewRefuse, WitnessIsThere, RunsHaveRoom, LowestIsFree, FreePlacesAreValid, FreePlacesAreAsMany, PlacesAreUsed};
 
 use crate::faults::sound_sources;
 use crate::rests::rests_are_runs;
@@ -12,6 +12,11 @@ pub fn need_laws()
     ensures fewest { NoPositionHasMore }
     ensures refused { TooFewRefuse }
     ensures witness { WitnessIsThere }
+{}
+
+/// The test by which pairs are told apart finds two of them the same just where they are.
+pub fn pair_laws()
+    ensures told { PairsAreTold }
 {}
 
 /// Where a run begins and no more than n pairs are there, one of the first n places is free. So a run that takes any free one always

@@ -10,7 +10,7 @@ mod ports;
 mod rests;
 mod routes;
 
-pub use channels::{fewest_channels, need_laws, run_laws};
+pub use channels::{fewest_channels, need_laws, pair_laws, run_laws};
 pub use comparing::place_laws;
 pub use dump::dump_is_playable;
 pub use examples::{
