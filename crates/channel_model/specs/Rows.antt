@@ -6,10 +6,10 @@ use Rattle.retune_model.specs.Ports.{port_at, events_on}
 use Rattle.retune_model.specs.Faults.{Targets, is_part}
 use Rattle.retune_model.specs.Pairs.{Pair, is_same_pair, channels_of}
 use Rattle.retune_model.specs.Runs.{since}
-use Rattle.retune_model.specs.PortNeed.{pairs_on, IsNeedOf}
+use Rattle.retune_model.specs.PortNeed.{pairs_on, IsNeedOf, need_of}
 use Rattle.retune_model.specs.Dump.{from_up, parts_with_notes}
 use Rattle.channel_model.specs.Choice.{TakesShortest, TakesShortestMember}
-use Rattle.channel_model.specs.MpeOutput.{Zone, members_from, zones_for, lower_allowed, upper_allowed}
+use Rattle.channel_model.specs.MpeOutput.{Zone, members_from, zones_for}
 
 -- ---- used rows
 
@@ -55,17 +55,9 @@ abbrev pub needs_of : (ℕ → ℕ) → List ℕ → List (ℕ × ℕ)
 needs_of need [] = []
 needs_of need (c ∷ cs) = (c, need c) ∷ needs_of need cs
 
--- whether each zone has no more members than it may
-abbrev pub ZonesFit : Bool → List Zone → Type 0
-ZonesFit drums [] = Unit {0}
-ZonesFit drums (l ∷ []) = l.members ≤ lower_allowed drums (l ∷ [])
-ZonesFit drums (l ∷ u ∷ _) = (l.members ≤ lower_allowed drums (l ∷ u ∷ [])) × (u.members ≤ upper_allowed drums)
-
--- The zones of a port: at most two parts have a note on, each zone is of one of them, and none has more members than it may.
-pub record AreZonesOf (o : Options) (es : List MidiEvent) (z : ℕ) (need : ℕ → ℕ) (zones : List Zone) : Type 0 where
-  pub few : length (parts_with_notes o (events_on z es)) ≤ 2
-  pub by_need : zones ≡ zones_for (needs_of need (parts_with_notes o (events_on z es)))
-  pub fit : ZonesFit (keeps_drums o (events_on z es)) zones
+-- The zones of a port of which at most two parts have a note on: one for each of them, with as many members as it needs.
+abbrev pub zones_on : Options → Targets → List MidiEvent → ℕ → List Zone
+zones_on o table es z = zones_for (needs_of (λ c. (need_of o (only c) table es z).0) (parts_with_notes o (events_on z es)))
 
 -- ---- the assignment that is read from an output
 
