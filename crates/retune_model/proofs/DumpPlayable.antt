@@ -17,7 +17,7 @@ use Rattle.retune_model.proofs.Fronts.{all_append}
 use Rattle.retune_model.proofs.Ported.{kept_block, kept_next, as_translated}
 use Rattle.retune_model.proofs.Beside.{Beside, Stands, written_playable, filter_each}
 
-all_groups : (xs ys : List Group) → all_events (xs ++ ys) ≡ all_events xs ++ all_events ys
+pub all_groups : (xs ys : List Group) → all_events (xs ++ ys) ≡ all_events xs ++ all_events ys
 all_groups [] ys = refl
 all_groups (x ∷ xs) ys = ap (λ l. events_of x ++ l) (all_groups xs ys) ∙ sym (append_assoc (events_of x) (all_events xs) (all_events ys))
 
@@ -56,7 +56,7 @@ beside_setup s e h v =
     (all_append (λ x. Beside e x) (all_events (sends e.tick e.track s.dumps)) (all_events (selects e.tick e.track s.program s.channels))
     (beside_sends e s.dumps v h.dumps) (beside_selects e s.program s.channels v h.program h.channels))
 
-beside_before : (s : Setup) (b : Bool) (e : MidiEvent) (d : Doing) → IsWritableSetup s → IsValidEvent e → AllByRecursion (λ x. Beside e x) (all_events (dump_before s b e d))
+pub beside_before : (s : Setup) (b : Bool) (e : MidiEvent) (d : Doing) → IsWritableSetup s → IsValidEvent e → AllByRecursion (λ x. Beside e x) (all_events (dump_before s b e d))
 beside_before s false e (Plays msg) h v = beside_setup s e h v
 beside_before s false e Resets h v = tt
 beside_before s false e (Tunes x) h v = tt
@@ -66,7 +66,7 @@ beside_before s true e Resets h v = tt
 beside_before s true e (Tunes x) h v = tt
 beside_before s true e Nothing h v = tt
 
-beside_behind : (s : Setup) (b : Bool) (e : MidiEvent) (d : Doing) → IsWritableSetup s → IsValidEvent e → AllByRecursion (λ x. Beside e x) (all_events (dump_behind s b e d))
+pub beside_behind : (s : Setup) (b : Bool) (e : MidiEvent) (d : Doing) → IsWritableSetup s → IsValidEvent e → AllByRecursion (λ x. Beside e x) (all_events (dump_behind s b e d))
 beside_behind s false e (Plays msg) h v = tt
 beside_behind s false e Resets h v = tt
 beside_behind s false e (Tunes x) h v = tt
@@ -76,7 +76,7 @@ beside_behind s true e Resets h v = beside_setup s e h v
 beside_behind s true e (Tunes x) h v = tt
 beside_behind s true e Nothing h v = tt
 
-none_behind : (s : Setup) (b : Bool) (e : MidiEvent) (w : MidiWhat) → is_end w ≡ true → all_events (dump_behind s b e (doing w)) ≡ []
+pub none_behind : (s : Setup) (b : Bool) (e : MidiEvent) (w : MidiWhat) → is_end w ≡ true → all_events (dump_behind s b e (doing w)) ≡ []
 none_behind s b e (Says m) h = absurd cc
 none_behind s b e (SysexOf lead bytes) h = absurd cc
 none_behind s true e (MetaOf kind bytes) h = refl

@@ -34,6 +34,7 @@ pub mod PortsApart
 pub mod OnePort
 pub mod Receivers
 pub mod DumpPlayable
+pub mod LivePlayable
 pub mod Rounded
 pub mod Heard
 pub mod Served

@@ -48,11 +48,15 @@ abbrev pub LiveTunes : Type 0
 LiveTunes = (l : Live) (value : ℕ → ℕ) (es : List MidiEvent) → IsHarmlessLive l → Reads l value → AllByRecursion (λ c. l.is_retuned c ≡ true) l.setup.channels →
     ArePlain l.is_retuned quiet es → IsTold l value (told_after l nothing_told es) (after (live_output l es)).tuning
 
--- ---- what the dump route writes can be written as a file like its source: it is valid, in order, and each track ends once
+-- ---- what the dump and live routes write can be written as a file like its source: it is valid, in order, and each track ends once
 
 abbrev pub DumpedIsPlayable : Type 0
 DumpedIsPlayable = (tracks : ℕ) (o : Options) (bytes : List ℕ) (es : List MidiEvent) →
     length bytes < 2 ^ 28 → o.program ≤ 127 → IsPlayable tracks es → IsPlayable tracks (dumped o bytes es)
+
+abbrev pub ToldIsPlayable : Type 0
+ToldIsPlayable = (tracks : ℕ) (o : Options) (change : ℕ → List ℕ) (es : List MidiEvent) →
+    ((k : ℕ) → k < 128 → length (change k) < 2 ^ 28) → o.program ≤ 127 → IsPlayable tracks es → IsPlayable tracks (told_live o change es)
 
 -- ---- each port of an output is what its rule makes of the port's events
 

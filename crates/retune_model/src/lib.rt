@@ -12,7 +12,7 @@ mod routes;
 
 pub use channels::{fewest_channels, need_laws, pair_laws, run_laws};
 pub use comparing::place_laws;
-pub use dump::dump_is_playable;
+pub use dump::{dump_is_playable, live_is_playable};
 pub use examples::{
     bend_examples, beyond_examples, dumpable_example, fault_examples, need_examples,
     octave_examples, output_examples, pair_examples, port_examples, rest_examples, scale_examples,
