@@ -9,4 +9,5 @@ pub mod Rounding
 pub mod Latest
 pub mod LastBegun
 pub mod Stretches
+pub mod OnePerScale
 pub mod Rising

@@ -12,7 +12,7 @@ use Rattle.key_pitch.specs.ByTick.{table_if, by_entries, scales_in_force, AreTab
 use Rattle.key_pitch.proofs.LastBegun.{always_begun}
 
 -- a scale and its table, or neither
-abbrev Paired : KeyMap → Option (List Entry) → Option KeyTable → Type 0
+abbrev pub Paired : KeyMap → Option (List Entry) → Option KeyTable → Type 0
 Paired m None None = Unit {0}
 Paired m (Some s) (Some t) = IsTable (one_scale s m) (λ key onset. table_of t key) × AreFewTerms (one_scale s m)
 Paired m _ _ = ⊥
@@ -30,7 +30,7 @@ paired_if m false false s t same table few = tt
 paired_if m true false s t same table few = absurd (cc)
 paired_if m false true s t same table few = absurd (cc)
 
-paired : (m : KeyMap) (tick : ℕ) (scales : List (ℕ × List Entry)) (tables : List (ℕ × KeyTable)) → AreTablesOf scales m tables
+pub paired : (m : KeyMap) (tick : ℕ) (scales : List (ℕ × List Entry)) (tables : List (ℕ × KeyTable)) → AreTablesOf scales m tables
     → Paired m (in_force tick scales) (in_force tick tables)
 paired m tick [] [] are = tt
 paired m tick (s ∷ scales) (t ∷ tables) are = paired_later m (in_force tick scales) _ (in_force tick tables) _ (paired m tick scales tables are.3)

@@ -29,3 +29,15 @@ abbrev pub AreTablesOf : List (ℕ × List Entry) → KeyMap → List (ℕ × Ke
 AreTablesOf [] m [] = Unit {0}
 AreTablesOf (s ∷ scales) m (t ∷ tables) = (s.0 ≡ t.0) × IsTable (one_scale s.1 m) (λ key onset. table_of t.1 key) × AreFewTerms (one_scale s.1 m) × AreTablesOf scales m tables
 AreTablesOf _ m _ = ⊥
+
+-- a scale has this table wherever it stands in a list
+abbrev pub HasTable : List Entry → KeyTable → List (ℕ × List Entry) → List (ℕ × KeyTable) → Type 0
+HasTable scale table [] [] = Unit {0}
+HasTable scale table (s ∷ scales) (t ∷ tables) = (scale ≡ s.1 → table ≡ t.1) × HasTable scale table scales tables
+HasTable scale table _ _ = ⊥
+
+-- A scale that comes again has the table that it had.
+abbrev pub AreOnePerScale : List (ℕ × List Entry) → List (ℕ × KeyTable) → Type 0
+AreOnePerScale [] [] = Unit {0}
+AreOnePerScale (s ∷ scales) (t ∷ tables) = HasTable s.1 t.1 scales tables × AreOnePerScale scales tables
+AreOnePerScale _ _ = ⊥

@@ -5,15 +5,16 @@ ghost use Rattle.std.specs.Prelude.{length, slice_index, Some, None};
 ghost use Rattle.std.specs.List.{AllByRecursion};
 ghost use Rattle.key_pitch.specs.declared.table.KeyTable.{KeyTable};
 ghost use Rattle.key_pitch.specs.InForce.{IsTimeline, ticks_of, in_force, IsLast};
-ghost use Rattle.key_pitch.specs.ByTick.{by_entries, scales_in_force, AreTablesOf};
+ghost use Rattle.key_pitch.specs.ByTick.{by_entries, scales_in_force, AreTablesOf, AreOnePerScale};
 ghost use Rattle.scl_text.specs.declared.entry.Entry.{Entry};
 ghost use Rattle.kbm_text.specs.Map.{KeyMap};
-ghost use Rattle.retune_model.specs.Table.{IsTable, AreFewTerms};
+ghost use Rattle.retune_model.specs.Table.{IsTable, IsOnePerScale, AreFewTerms};
 
 /// The table in force at a tick is the last one of its list whose tick isn't after it; where the ticks rise,
 /// none that has begun is later. Tables whose first
 /// tick is 0 have one in force at every tick; where they are the tables of some scales, they are a table of
-/// the scale in force at each tick. A list of one tick, 0, may get further ones, each above the last.
+/// the scale in force at each tick, and where a scale that comes again has the table that it had, a key has the
+/// same bounds wherever the same scale is in force. A list of one tick, 0, may get further ones, each above the last.
 pub fn in_force_laws()
     ensures last { (tick : ℕ) (entries : List (ℕ × KeyTable)) (t : KeyTable)
         → in_force tick entries ≡ Some t → IsLast tick entries t }
@@ -33,6 +34,9 @@ pub fn in_force_laws()
     ensures few { (scales : List (ℕ × List Entry)) (m : KeyMap) (entries : List (ℕ × KeyTable))
         → AreTablesOf scales m entries → IsTimeline (ticks_of entries)
         → AreFewTerms (scales_in_force scales m) }
+    ensures one_per_scale { (scales : List (ℕ × List Entry)) (m : KeyMap) (entries : List (ℕ × KeyTable))
+        → AreTablesOf scales m entries → IsTimeline (ticks_of entries) → AreOnePerScale scales entries
+        → IsOnePerScale (scales_in_force scales m) (by_entries entries) }
 {}
 
 /// Three values, from ticks 0, 480 and 960 on; and lists that have nothing yet.
