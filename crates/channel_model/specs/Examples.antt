@@ -1,5 +1,5 @@
 -- Worked examples: which channels runs get, and what the bend and MPE routes write. Channels are counted from 0.
-use Rattle.std.specs.Prelude.{ℕ, false, zero, suc, ℤ, pos, negsuc, List, [], ◌∷◌, nat_eq, if◌then◌else◌}
+use Rattle.std.specs.Prelude.{ℕ, true, false, zero, suc, ℤ, pos, negsuc, List, [], ◌∷◌, nat_eq, if◌then◌else◌}
 use Rattle.mt_base.specs.declared.event.Msg.{Msg}
 use Rattle.mt_base.specs.declared.event.Msg.TheVariants.{NoteOn, NoteOff, Program}
 use Rattle.mt_base.specs.Midi.{MidiEvent}
@@ -86,3 +86,10 @@ one_zone (suc z) = []
 
 abbrev pub zoned : List MidiEvent → List MidiEvent
 zoned es = mpe_output mpe_options equal_table one_zone (λ z k p. 1) es
+
+-- two parts, each with one member, and each part's member
+abbrev pub two_zones : ℕ → List Zone
+two_zones z = record { part = 0; upper = false; members = 1 } ∷ record { part = 1; upper = true; members = 1 } ∷ []
+
+abbrev pub zoned_twice : List MidiEvent → List MidiEvent
+zoned_twice es = mpe_output mpe_options equal_table two_zones (λ z k p. if nat_eq p.part.channel 0 then 1 else 14) es

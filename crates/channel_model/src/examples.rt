@@ -4,12 +4,12 @@ ghost use Rattle.std.specs.Prelude.{◌≡◌, ◌++◌, ℕ, true, false, List,
 ghost use Rattle.mt_base.specs.declared.event.Msg.TheVariants.{NoteOn, NoteOff, Control, Program, Bend};
 ghost use Rattle.midi_model.specs.Examples.{at, all_at, sysex, general_midi_on};
 ghost use Rattle.midi_model.specs.Bring.{registered};
-ghost use Rattle.retune_model.specs.Examples.{equal_table, just_table, resting, bend_options, needed, counts, end_at, one_note, chord, taken_over, reset_between, wheel, one_after_other, port_event, in_track, two_ports, ends_in};
+ghost use Rattle.retune_model.specs.Examples.{equal_table, just_table, resting, bend_options, needed, counts, end_at, one_note, chord, taken_over, reset_between, wheel, one_after_other, port_event, in_track, two_ports, ends_in, two_parts, mpe_options};
 ghost use Rattle.retune_model.specs.Ports.{port_at};
 ghost use Rattle.channel_model.specs.Choice.{TakesShortest};
-ghost use Rattle.channel_model.specs.Rows.{used_row};
+ghost use Rattle.channel_model.specs.Rows.{used_row, zones_on};
 ghost use Rattle.channel_model.specs.MpeOutput.{zones_for, lower_allowed, members_from};
-ghost use Rattle.channel_model.specs.Examples.{on_first, on_three, each_own, again, changed_after, second_again, first_again, all_first, setup, free_from, program_on, priced, bent, rested, ready, zoned};
+ghost use Rattle.channel_model.specs.Examples.{on_first, on_three, each_own, again, changed_after, second_again, first_again, all_first, setup, free_from, program_on, priced, bent, rested, ready, zoned, zoned_twice, two_zones};
 
 use crate::choice::tested_choice;
 
@@ -83,11 +83,16 @@ pub fn port_examples()
         ++ (ends_in 0 ++ ends_in 1))) }
 {}
 
-/// An output of the MPE route, by example.
+/// Outputs of the MPE route, by example: of one part, of two, and with a reset, behind which the zone is set again.
 pub fn mpe_examples()
     ensures one { zoned one_note
         ≡ all_at 0 (registered 0 6 1) ++ (at 0 (NoteOn 1 69 64) ∷ at 480 (NoteOff 1 69 64)
         ∷ end_at 480 ∷ []) }
+    ensures two { zoned_twice two_parts
+        ≡ all_at 0 (registered 0 6 1 ++ (registered 15 6 1 ++ (NoteOn 1 69 64 ∷ NoteOn 14 69 64 ∷ []))) }
+    ensures reset { zoned reset_between
+        ≡ all_at 0 (registered 0 6 1 ++ NoteOn 1 69 64 ∷ []) ++ (sysex 480 general_midi_on
+        ∷ all_at 480 (registered 0 6 1) ++ (at 960 (NoteOn 1 69 64) ∷ at 1440 (NoteOff 1 69 64) ∷ [])) }
 {}
 
 /// The zones of two parts with needs 9 and 5, and of one part where drums are kept, by example.
@@ -101,6 +106,7 @@ pub fn zone_examples()
     ensures lower_allowed { lower_allowed false (zones_for ((0, 9) ∷ (1, 5) ∷ [])) ≡ 9 }
     ensures alone { lower_allowed false (zones_for ((0, 9) ∷ [])) ≡ 15 }
     ensures with_drums { lower_allowed true (zones_for ((0, 9) ∷ [])) ≡ 8 }
+    ensures found { zones_on mpe_options equal_table two_parts 0 ≡ two_zones 0 }
     ensures upper_members { members_from (record { part = 1; upper = true; members = 5 }) 0 5
         ≡ 14 ∷ 13 ∷ 12 ∷ 11 ∷ 10 ∷ [] }
     ensures lower_members { members_from (record { part = 0; upper = false; members = 2 }) 0 2

@@ -1,5 +1,5 @@
 -- Worked examples: scales, mappings, tables of bounds, sources and what they cause. Channels are counted from 0.
-use Rattle.std.specs.Prelude.{ℕ, zero, suc, ◌+◌, ◌*◌, ℤ, pos, List, [], ◌∷◌, ◌++◌, true, false, Bool, nat_eq, if◌then◌else◌, Option, Some, None, length, map}
+use Rattle.std.specs.Prelude.{ℕ, zero, suc, ◌+◌, ◌*◌, ℤ, pos, List, [], ◌∷◌, ◌++◌, true, false, Bool, nat_eq, nat_lt, if◌then◌else◌, Option, Some, None, length, map}
 use Rattle.mt_base.specs.declared.event.Msg.TheVariants.{NoteOn, NoteOff, Control, Program, Bend}
 use Rattle.mt_base.specs.Midi.{MidiEvent, MetaOf}
 use Rattle.midi_model.specs.TuningBytes.{select_of}
@@ -72,6 +72,14 @@ gapped_table key onset = if nat_eq key 61 then None else Some (exact_bounds (320
 abbrev pub joined_table : Targets
 joined_table key onset = if nat_eq key 70 then Some (exact_bounds (3200000000000 * 69)) else Some (exact_bounds (3200000000000 * key))
 
+-- equal temperament a semitone higher
+abbrev pub raised_table : Targets
+raised_table key onset = Some (exact_bounds (3200000000000 * (key + 1)))
+
+-- equal temperament, and the just octave from tick 480 on
+abbrev pub changing_table : Targets
+changing_table key onset = if nat_lt onset 480 then equal_table key onset else just_table key onset
+
 -- ---- options
 
 abbrev pub with_route : Route → ℕ → Options
@@ -130,6 +138,19 @@ one_after_other t = at 0 (NoteOn 0 69 64) ∷ at 480 (NoteOff 0 69 64) ∷ at t 
 -- a bend while a note rests
 abbrev pub bent_at_rest : List MidiEvent
 bent_at_rest = at 0 (NoteOn 0 69 64) ∷ at 480 (NoteOff 0 69 64) ∷ at 490 (Bend 0 12288) ∷ []
+
+-- one note after another of one part at the same key, with a program between them; the second begins at a tick
+abbrev pub struck_again_at : ℕ → List MidiEvent
+struck_again_at t = at 0 (NoteOn 0 69 64) ∷ at 480 (NoteOff 0 69 64) ∷ at 490 (Program 0 5) ∷ at t (NoteOn 0 69 64) ∷ []
+
+-- a key of which the just third is struck while it sounds in equal temperament, with a bend between them
+abbrev pub struck_bent : ℕ → List MidiEvent
+struck_bent bend = at 0 (NoteOn 0 64 64) ∷ at 240 (Bend 0 bend) ∷ at 480 (NoteOn 0 64 64) ∷ []
+
+-- so many parameters of the first channel, set to other values than their defaults
+abbrev pub set_parameters : ℕ → List MidiEvent
+set_parameters zero = at 0 (Control 0 99 0) ∷ []
+set_parameters (suc n) = set_parameters n ++ all_at 0 (Control 0 98 n ∷ Control 0 6 1 ∷ [])
 
 -- ---- sources with ports: a track with a port and one note
 

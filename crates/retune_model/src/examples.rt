@@ -10,15 +10,17 @@ ghost use Rattle.retune_model.specs.Scale.{scale_pitch, term_count};
 ghost use Rattle.retune_model.specs.Table.{nearest_tuning, nearest_key, nearest_steps};
 ghost use Rattle.retune_model.specs.Options.{ByDump, ByLive, ByBend, ByMpe};
 ghost use Rattle.retune_model.specs.Source.{bend_in_steps};
-ghost use Rattle.retune_model.specs.Faults.{UnmappedKey, Unison, BendTooFar, ModeMessage, DataStep, TuningInSource, MpeSource, Port, TooManyParameters, PolyInMpe, is_part};
+ghost use Rattle.retune_model.specs.Faults.{UnmappedKey, KeyOutOfDevice, Unison, BendTooFar, ModeMessage, DataStep, TuningInSource, MpeSource, Port, TooManyParameters, PolyInMpe, Restrike, is_part};
 ghost use Rattle.retune_model.specs.Ports.{tick_to};
+ghost use Rattle.retune_model.specs.Pairs.{is_same_pair};
+ghost use Rattle.retune_model.specs.Runs.{since};
 ghost use Rattle.retune_model.specs.PortNeed.{IsValidOn, size_on};
 ghost use Rattle.retune_model.specs.SourceFaults.{first_fault, IsSound};
 ghost use Rattle.retune_model.specs.Octave.{octave_of};
 ghost use Rattle.retune_model.specs.Dump.{dumped, told_live};
 ghost use Rattle.retune_model.specs.PlaysTheSame.{PlayTheSame, plain_device};
 ghost use Rattle.retune_model.specs.Dumpable.{IsDumpable};
-ghost use Rattle.retune_model.specs.Examples.{two_steps, comma, comma_mapping, gapped_mapping, equal_table, just_table, gapped_table, joined_table, with_route, at_range, resting, bend_options, mpe_options, end_at, one_note, chord, octave_apart, two_parts, reset_between, one_after_other, bent_at_rest, port_event, two_ports, five_ports, ends_in, dumped_begins_in, counts, pairs, pair, held, needed, fault_of, change, even, octave_message, level_bytes, raised_bytes, read_values, read_for, octave_pitch};
+ghost use Rattle.retune_model.specs.Examples.{two_steps, comma, comma_mapping, gapped_mapping, equal_table, just_table, gapped_table, joined_table, raised_table, changing_table, with_route, at_range, resting, bend_options, mpe_options, end_at, one_note, chord, octave_apart, two_parts, reset_between, one_after_other, bent_at_rest, struck_again_at, struck_bent, set_parameters, port_event, two_ports, five_ports, ends_in, dumped_begins_in, counts, pairs, pair, held, needed, fault_of, change, even, octave_message, level_bytes, raised_bytes, read_values, read_for, octave_pitch};
 
 use crate::channels::fewest_channels;
 use crate::faults::fault_laws;
@@ -93,6 +95,17 @@ pub fn fault_examples()
         ≡ Some (2, Port) }
     ensures key_pressure { fault_of mpe_options equal_table (all_at 0 (NoteOn 0 69 64 ∷ KeyPressure 0 69 9 ∷ []))
         ≡ Some (2, PolyInMpe) }
+    ensures out_of_device { fault_of bend_options raised_table (at 0 (NoteOn 0 127 64) ∷ [])
+        ≡ Some (1, KeyOutOfDevice) }
+    ensures in_device { fault_of bend_options raised_table (at 0 (NoteOn 0 126 64) ∷ []) ≡ None }
+    ensures parameters { fault_of (with_route ByDump 12) equal_table (set_parameters 17)
+        ≡ Some (35, TooManyParameters) }
+    ensures few_parameters { fault_of (with_route ByDump 12) equal_table (set_parameters 16) ≡ None }
+    ensures restrike { fault_of (with_route ByBend 1) changing_table (struck_bent 8192)
+        ≡ Some (3, Restrike) }
+    ensures restrike_too_far { fault_of (with_route ByBend 1) changing_table (struck_bent 4392)
+        ≡ Some (3, BendTooFar) }
+    ensures far_alone { fault_of (with_route ByBend 1) equal_table (struck_bent 4392) ≡ None }
 {}
 
 /// How many pairs there are at each position, and which ones where there are most, by example.
@@ -110,7 +123,8 @@ pub fn pair_examples()
 {}
 
 /// One part takes over from another: without a tail one channel is enough; with a tail of 1 the first note still rests as the second
-/// begins at the same tick, and no longer where it begins a tick later.
+/// begins at the same tick, and no longer where it begins a tick later. A rest that runs out at the tick of the next note of its pair
+/// leaves no gap: its run goes on.
 pub fn rest_examples()
     ensures need_no_tail { needed (resting 0) (one_after_other 480) 0 ≡ (1, 1) }
     ensures need_tail { needed (resting 1) (one_after_other 480) 0 ≡ (2, 3) }
@@ -126,6 +140,10 @@ pub fn rest_examples()
     ensures held_there { held (resting 1) equal_table (one_after_other 480) 0 3
         ≡ pair 0 0 (pos 0) ∷ [] }
     ensures not_held { held (resting 1) equal_table (one_after_other 481) 0 3 ≡ [] }
+    ensures run_goes_on { since is_same_pair (pairs (resting 20) equal_table (struck_again_at 500) 0) (pair 0 0 (pos 0)) 4
+        ≡ 1 }
+    ensures run_begins { since is_same_pair (pairs (resting 10) equal_table (struck_again_at 500) 0) (pair 0 0 (pos 0)) 4
+        ≡ 4 }
 {}
 
 /// A bend that goes too far for a pair that rests is a fault, and none once the rest has run out.
