@@ -129,7 +129,6 @@ abbrev pub NoneIsAllowed : Type 0
 NoneIsAllowed = (o : Options) (part : ℕ → Bool) (table : Targets) (es : List MidiEvent) (z most : ℕ) (t : TooMany) (channel : ℕ → ℕ) →
     AreParts o part → IsSound o table es → NeedsMore o part table es z most t → IsValidOn o part table es z channel → most < size_on part es z channel
 
--- what is said of it is determined
-abbrev pub OneAnswer : Type 0
-OneAnswer = (o : Options) (part : ℕ → Bool) (table : Targets) (es : List MidiEvent) (z most : ℕ) (t u : TooMany) →
-    NeedsMore o part table es z most t → NeedsMore o part table es z most u → t ≡ u
+-- a source has one refusal at most
+abbrev pub OneRefusal : Type 0
+OneRefusal = (o : Options) (allowed : ℕ → Bool) (table : Targets) (es : List MidiEvent) (r s : Refusal) → Refuses o allowed table es r → Refuses o allowed table es s → r ≡ s
