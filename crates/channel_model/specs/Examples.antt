@@ -1,15 +1,16 @@
 -- Worked examples: which channels runs get, and what the bend and MPE routes write. Channels are counted from 0.
-use Rattle.std.specs.Prelude.{ℕ, true, false, zero, suc, ℤ, pos, negsuc, List, [], ◌∷◌, nat_eq, if◌then◌else◌}
+use Rattle.std.specs.Prelude.{ℕ, true, false, zero, suc, ℤ, pos, negsuc, List, [], ◌∷◌, nat_eq, nat_lt, if◌then◌else◌, Bool}
 use Rattle.mt_base.specs.declared.event.Msg.{Msg}
 use Rattle.mt_base.specs.declared.event.Msg.TheVariants.{NoteOn, NoteOff, Program}
 use Rattle.mt_base.specs.Midi.{MidiEvent}
-use Rattle.midi_model.specs.Examples.{at}
+use Rattle.midi_model.specs.Examples.{at, all_at}
 use Rattle.midi_model.specs.Bring.{registered}
 use Rattle.retune_model.specs.Ports.{port_at}
 use Rattle.retune_model.specs.Faults.{Targets}
 use Rattle.retune_model.specs.Pairs.{Pair}
 use Rattle.retune_model.specs.Examples.{resting, mpe_options, equal_table, pair, pairs}
 use Rattle.channel_model.specs.Choice.{free_since, from_state, setup_length, price}
+use Rattle.channel_model.specs.Refusals.{TooMany}
 use Rattle.channel_model.specs.BendOutput.{bend_output}
 use Rattle.channel_model.specs.MpeOutput.{Zone, mpe_output}
 
@@ -41,6 +42,18 @@ again = at 0 (Program 0 5) ∷ at 0 (NoteOn 0 69 64) ∷ at 0 (NoteOn 1 69 64) �
 -- a part that changes its program twice after its note, and another part's note
 abbrev pub changed_after : List MidiEvent
 changed_after = at 0 (NoteOn 0 69 64) ∷ at 480 (NoteOff 0 69 64) ∷ at 500 (Program 0 5) ∷ at 600 (Program 0 7) ∷ at 700 (NoteOn 1 69 64) ∷ []
+
+-- one key of three parts
+abbrev pub three_parts : List MidiEvent
+three_parts = all_at 0 (NoteOn 0 69 64 ∷ NoteOn 1 69 64 ∷ NoteOn 2 69 64 ∷ [])
+
+-- the first two channels are allowed
+abbrev pub first_two : ℕ → Bool
+first_two c = nat_lt c 2
+
+-- the chord's three pairs at once are one more than those
+abbrev pub one_too_many : TooMany
+one_too_many = record { port = 0; need = 3; allowed = 2; position = 3; tick = 0; pairs = pair 0 0 (negsuc 92) ∷ pair 0 0 (pos 0) ∷ pair 0 0 (pos 13) ∷ [] }
 
 -- ---- the choice, on the first port
 

@@ -8,10 +8,12 @@ ghost use Rattle.retune_model.specs.Examples.{equal_table, just_table, resting, 
 ghost use Rattle.retune_model.specs.Ports.{port_at};
 ghost use Rattle.channel_model.specs.Choice.{TakesShortest};
 ghost use Rattle.channel_model.specs.Rows.{used_row, zones_on};
+ghost use Rattle.channel_model.specs.Refusals.{Refuses, TooManyChannels, TooManyParts};
 ghost use Rattle.channel_model.specs.MpeOutput.{zones_for, lower_allowed, members_from};
-ghost use Rattle.channel_model.specs.Examples.{on_first, on_three, each_own, again, changed_after, second_again, first_again, all_first, setup, free_from, program_on, priced, bent, rested, ready, zoned, zoned_twice, two_zones};
+ghost use Rattle.channel_model.specs.Examples.{on_first, on_three, each_own, again, changed_after, second_again, first_again, all_first, setup, free_from, program_on, priced, bent, rested, ready, zoned, zoned_twice, two_zones, first_two, one_too_many, three_parts};
 
 use crate::choice::tested_choice;
+use retune_model::fewest_channels;
 
 /// The run of a part that begins again costs one message on the channel of the other part, and none on its own, which has been free
 /// for less long: so it gets its own. While a note rests its channel is told of its part's program, and no more once the rest has run out.
@@ -112,3 +114,11 @@ pub fn zone_examples()
     ensures lower_members { members_from (record { part = 0; upper = false; members = 2 }) 0 2
         ≡ 1 ∷ 2 ∷ [] }
 {}
+
+/// A chord of three pairs where two channels are allowed, and three parts on MPE, are refused; by example.
+pub fn refusal_examples()
+    ensures chord { Refuses bend_options first_two just_table chord (TooManyChannels one_too_many) }
+    ensures parts { Refuses mpe_options first_two equal_table three_parts (TooManyParts 0 3) }
+{
+    fewest_channels();
+}
