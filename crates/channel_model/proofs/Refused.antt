@@ -24,7 +24,8 @@ first_apart o table es z [] t fits h = h
 first_apart o table es z (x ∷ xs) t fits (inl h) = let few = fits.0 t.need t.position h.need in let more = h.more in omega (arith, few, more)
 first_apart o table es z (x ∷ xs) t fits (inr h) = first_apart o table es z xs t fits.1 h.1
 
-pub apart : (route : Route) (o : Options) (allowed : ℕ → Bool) (table : Targets) (es : List MidiEvent) (r : Refusal) → FitsOn route o allowed table es → RefusesOn route o allowed table es r → ⊥
+pub apart : (route : Route) (o : Options) (allowed : ℕ → Bool) (table : Targets) (es : List MidiEvent) (r : Refusal)
+    → FitsOn route o allowed table es → RefusesOn route o allowed table es r → ⊥
 apart ByBend o allowed table es (TooManyChannels t) fits h = let few = fits t.port t.need t.position h.here.need in let more = h.here.more in omega (arith, few, more)
 apart ByBend o allowed table es (TooManyParts z n) fits h = h
 apart ByMpe o allowed table es (TooManyParts z n) fits h = let few = (fits z).0 in let here = h.here in let more = h.more in omega (arith, few, here, more)
@@ -36,7 +37,8 @@ apart ByLive o allowed table es (TooManyParts z n) fits h = h
 
 -- ---- the pairs of a refusal
 
-apart_take : (p : Pair) (n : ℕ) (ps : List Pair) → AllByRecursion (λ q. is_same_pair p q ≡ false) ps → AllByRecursion (λ q. is_same_pair p q ≡ false) (take n ps)
+apart_take : (p : Pair) (n : ℕ) (ps : List Pair) → AllByRecursion (λ q. is_same_pair p q ≡ false) ps
+    → AllByRecursion (λ q. is_same_pair p q ≡ false) (take n ps)
 apart_take p zero ps h = tt
 apart_take p (suc n) [] h = tt
 apart_take p (suc n) (q ∷ qs) h = (h.0, apart_take p n qs h.1)
@@ -47,7 +49,8 @@ distinct_take zero ps h = tt
 distinct_take (suc n) [] h = tt
 distinct_take (suc n) (p ∷ ps) h = (apart_take p n ps h.0, distinct_take n ps h.1)
 
-pub pair_more : PairsStandOnce → (o : Options) (part : ℕ → Bool) (table : Targets) (es : List MidiEvent) (z most : ℕ) (t : TooMany) → NeedsMore o part table es z most t
+pub pair_more : PairsStandOnce → (o : Options) (part : ℕ → Bool) (table : Targets) (es : List MidiEvent) (z most : ℕ) (t : TooMany)
+    → NeedsMore o part table es z most t
     → (length t.pairs ≡ suc most) × IsDistinct is_same_pair t.pairs
 pair_more once o part table es z most t h =
     let there = pairs_on o part table es z t.position in
@@ -56,8 +59,10 @@ pair_more once o part table es z most t h =
     let long : suc most ≤ length there = omega (arith, reached, more) in
     (ap length h.pairs ∙ length-take-le (suc most) there long, subst (IsDistinct is_same_pair) (sym h.pairs) (distinct_take (suc most) there (once o part table es z t.position)))
 
-pub none_allowed : FewerAreRefused → (o : Options) (part : ℕ → Bool) (table : Targets) (es : List MidiEvent) (z most : ℕ) (t : TooMany) (channel : ℕ → ℕ)
-    → AreParts o part → IsSound o table es → NeedsMore o part table es z most t → IsValidOn o part table es z channel → most < size_on part es z channel
+pub none_allowed : FewerAreRefused
+    → (o : Options) (part : ℕ → Bool) (table : Targets) (es : List MidiEvent) (z most : ℕ) (t : TooMany) (channel : ℕ → ℕ)
+    → AreParts o part → IsSound o table es → NeedsMore o part table es z most t → IsValidOn o part table es z channel
+    → most < size_on part es z channel
 none_allowed refused o part table es z most t channel parts sound h valid =
     refused o part table es z t.need t.position most channel (record { parts = parts; sound = sound; need = h.need }) h.more valid
 
@@ -83,10 +88,12 @@ one_answer determined o part table es z most t u h g =
 neither : (a b : ℕ) → (a < b → ⊥) → (b < a → ⊥) → a ≡ b
 neither a b f g = elim (cases_lt a b) [ inl h ↦ absurd (f h) | inr h ↦ elim (cases_lt b a) [ inl k ↦ absurd (g k) | inr k ↦ omega (arith, h, k) ] ]
 
-over : (o : Options) (part : ℕ → Bool) (table : Targets) (es : List MidiEvent) (z most : ℕ) (t : TooMany) → NeedsAtMost o part table es z most → NeedsMore o part table es z most t → ⊥
+over : (o : Options) (part : ℕ → Bool) (table : Targets) (es : List MidiEvent) (z most : ℕ) (t : TooMany)
+    → NeedsAtMost o part table es z most → NeedsMore o part table es z most t → ⊥
 over o part table es z most t fits h = let few = fits t.need t.position h.need in let more = h.more in omega (arith, few, more)
 
-one_port : NeedIsDetermined → (o : Options) (allowed : ℕ → Bool) (table : Targets) (es : List MidiEvent) (t u : TooMany) → PortRefuses o allowed table es t → PortRefuses o allowed table es u → t ≡ u
+one_port : NeedIsDetermined → (o : Options) (allowed : ℕ → Bool) (table : Targets) (es : List MidiEvent) (t u : TooMany)
+    → PortRefuses o allowed table es t → PortRefuses o allowed table es u → t ≡ u
 one_port determined o allowed table es t u h g =
     let most : ℕ = length (allowed_row o allowed) in
     let same : t.port ≡ u.port = neither t.port u.port (λ l. over o (is_part o) table es t.port most t (g.least t.port l) h.here) (λ l. over o (is_part o) table es u.port most u (h.least u.port l) g.here) in
@@ -100,7 +107,8 @@ one_zone determined o table es z (x ∷ xs) t u (inl h) (inr g) = absurd (over o
 one_zone determined o table es z (x ∷ xs) t u (inr h) (inl g) = absurd (over o (only x.0.part) table es z x.1 u h.0 g)
 one_zone determined o table es z (x ∷ xs) t u (inr h) (inr g) = one_zone determined o table es z xs t u h.1 g.1
 
-one_zone_port : NeedIsDetermined → (o : Options) (table : Targets) (es : List MidiEvent) (t u : TooMany) → ZoneRefuses o table es t → ZoneRefuses o table es u → t ≡ u
+one_zone_port : NeedIsDetermined → (o : Options) (table : Targets) (es : List MidiEvent) (t u : TooMany) → ZoneRefuses o table es t
+    → ZoneRefuses o table es u → t ≡ u
 one_zone_port determined o table es t u h g =
     let same : t.port ≡ u.port = neither t.port u.port
     (λ l. first_apart o table es t.port (zones_allowed o table es t.port) t (g.least t.port l) h.here)

@@ -73,7 +73,8 @@ no_worse cost free c d h = elim (or_cases (nat_lt (cost c) (cost d)) _ h) [
   )
 ]
 
-best_of : (at : ℕ → List Pair) (cost : Pair → ℕ → ℕ → ℕ) (row : ℕ → ℕ) (k : ℕ) (p : Pair) (n c : ℕ) → is_best at cost row k p n ≡ true → c < n → is_free at row k c ≡ true
+best_of : (at : ℕ → List Pair) (cost : Pair → ℕ → ℕ → ℕ) (row : ℕ → ℕ) (k : ℕ) (p : Pair) (n c : ℕ) → is_best at cost row k p n ≡ true
+    → c < n → is_free at row k c ≡ true
     → IsNoWorse (λ d. cost p d k) (λ d. free_since at row d k) (row (suc k)) c
 best_of at cost row k p zero c h l free = absurd (omega (arith, l))
 best_of at cost row k p (suc n) c h l free =
@@ -105,7 +106,8 @@ taken_well told at (suc last) n cost row h k p l b =
     one begun all = has_among told (λ q. begins is_same_pair at last q) (is_taken_well at n cost row last) (at (suc last)) p all begun
         (and_parts (is_member is_same_pair (at (suc last)) p) (not (is_member is_same_pair (at last) p)) begun).0
 
-pub tested_is_best : PairsAreTold → (at : ℕ → List Pair) (last n : ℕ) (cost : Pair → ℕ → ℕ → ℕ) (row : ℕ → ℕ) → takes_best at last n cost row ≡ true → TakesBest at last n cost row
+pub tested_is_best : PairsAreTold → (at : ℕ → List Pair) (last n : ℕ) (cost : Pair → ℕ → ℕ → ℕ) (row : ℕ → ℕ)
+    → takes_best at last n cost row ≡ true → TakesBest at last n cost row
 tested_is_best told at last n cost row h = record {
   within = λ k p l b. ltb-true (row (suc k)) n (parts k p l b).0;
   free = λ k p l b. free_from told at row k (row (suc k)) (rest k p l b).0;

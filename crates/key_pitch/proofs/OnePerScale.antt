@@ -27,7 +27,8 @@ chosen_both m tick s t scales tables scale None (Some y) b c o_is u_is pair same
 chosen_both m tick s t scales tables scale (Some x) None b c o_is u_is pair same is = absurd pair
 
 chosen : (m : KeyMap) (tick : ℕ) (s : ℕ × List Entry) (t : ℕ × KeyTable) (scales : List (ℕ × List Entry)) (tables : List (ℕ × KeyTable)) (scale : List Entry)
-    → AreTablesOf (s ∷ scales) m (t ∷ tables) → in_force tick (s ∷ scales) ≡ Some scale → Chosen tick s t scales tables scale (in_force tick (t ∷ tables))
+    → AreTablesOf (s ∷ scales) m (t ∷ tables) → in_force tick (s ∷ scales) ≡ Some scale
+    → Chosen tick s t scales tables scale (in_force tick (t ∷ tables))
 chosen m tick s t scales tables scale are is =
     chosen_both m tick s t scales tables scale (in_force tick scales) (in_force tick tables) (nat_le s.0 tick) (nat_le t.0 tick) refl refl (paired m tick scales tables are.3)
     (ap (λ n. nat_le n tick) are.0) is
@@ -44,7 +45,8 @@ has_table m tick (s ∷ scales) (t ∷ tables) scale table are has is = elim (ch
 ]
 
 same_tables : (m : KeyMap) (a b : ℕ) (scales : List (ℕ × List Entry)) (tables : List (ℕ × KeyTable)) (scale : List Entry)
-    → AreTablesOf scales m tables → AreOnePerScale scales tables → in_force a scales ≡ Some scale → in_force b scales ≡ Some scale → in_force a tables ≡ in_force b tables
+    → AreTablesOf scales m tables → AreOnePerScale scales tables → in_force a scales ≡ Some scale → in_force b scales ≡ Some scale
+    → in_force a tables ≡ in_force b tables
 unfolding Chosen
 same_tables m a b [] [] scale are one at_a at_b = refl
 same_tables m a b [] (t ∷ tables) scale are one at_a at_b = absurd are
@@ -66,7 +68,8 @@ some_scale m (Some x) u pair some = refl
 some_scale m None None pair some = absurd (some refl)
 some_scale m None (Some y) pair some = absurd pair
 
-pub one_per_scale : (m : KeyMap) (scales : List (ℕ × List Entry)) (tables : List (ℕ × KeyTable)) → AreTablesOf scales m tables → IsTimeline (ticks_of tables) → AreOnePerScale scales tables
+pub one_per_scale : (m : KeyMap) (scales : List (ℕ × List Entry)) (tables : List (ℕ × KeyTable)) → AreTablesOf scales m tables
+    → IsTimeline (ticks_of tables) → AreOnePerScale scales tables
     → IsOnePerScale (scales_in_force scales m) (by_entries tables)
 one_per_scale m scales tables are timeline one key a b same =
     let some : (tick : ℕ) → in_force tick scales ≡ Some (unwrap_or (in_force tick scales) []) =

@@ -22,7 +22,8 @@ record IsWritable (l : Live) : Type 0 where
   pub setup : IsWritableSetup l.setup
   pub change : (k : ℕ) → k < 128 → length (l.change k) < 2 ^ 28
 
-beside_due : (l : Live) (s : Told) (e : MidiEvent) (msg : Msg) → IsWritable l → IsValidEvent e → IsValidMsg msg → AllByRecursion (λ x. Beside e x) (all_events (change_due l s e msg))
+beside_due : (l : Live) (s : Told) (e : MidiEvent) (msg : Msg) → IsWritable l → IsValidEvent e → IsValidMsg msg
+    → AllByRecursion (λ x. Beside e x) (all_events (change_due l s e msg))
 beside_due l s e (NoteOn c k zero) h v m = tt
 beside_due l s e (NoteOn c k (suc u)) h v m = pick (l.is_retuned c && not (s.keys k))
   where
@@ -36,7 +37,8 @@ beside_due l s e (Program c p) h v m = tt
 beside_due l s e (Pressure c u) h v m = tt
 beside_due l s e (Bend c u) h v m = tt
 
-before_live : (l : Live) (s : Told) (e : MidiEvent) (w : MidiWhat) → IsWritable l → IsValidEvent e → IsValidWhat w → AllByRecursion (λ x. Beside e x) (all_events (live_before l s e (doing w)))
+before_live : (l : Live) (s : Told) (e : MidiEvent) (w : MidiWhat) → IsWritable l → IsValidEvent e → IsValidWhat w
+    → AllByRecursion (λ x. Beside e x) (all_events (live_before l s e (doing w)))
 before_live l s e (Says msg) h v m =
     subst (AllByRecursion (λ x. Beside e x)) (sym (all_groups (dump_before l.setup s.begun e (Plays msg)) (change_due l s e msg)))
     (all_append (λ x. Beside e x) (all_events (dump_before l.setup s.begun e (Plays msg))) (all_events (change_due l s e msg)) (beside_before l.setup s.begun e (Plays msg) h.setup v) (beside_due l s e msg h v m))
@@ -57,10 +59,12 @@ live_stands l h s e v = record {
   last = none_behind l.setup s.begun e e.what;
 }
 
-live_writable : (o : Options) (change : ℕ → List ℕ) (es : List MidiEvent) → ((k : ℕ) → k < 128 → length (change k) < 2 ^ 28) → o.program ≤ 127 → IsWritable (live_setup o change es)
+live_writable : (o : Options) (change : ℕ → List ℕ) (es : List MidiEvent) → ((k : ℕ) → k < 128 → length (change k) < 2 ^ 28)
+    → o.program ≤ 127 → IsWritable (live_setup o change es)
 live_writable o change es short low = record { setup = record { dumps = tt; channels = channels_below o es; program = low }; change = short }
 
-pub told_playable : (tracks : ℕ) (o : Options) (change : ℕ → List ℕ) (es : List MidiEvent) → ((k : ℕ) → k < 128 → length (change k) < 2 ^ 28) → o.program ≤ 127
+pub told_playable : (tracks : ℕ) (o : Options) (change : ℕ → List ℕ) (es : List MidiEvent)
+    → ((k : ℕ) → k < 128 → length (change k) < 2 ^ 28) → o.program ≤ 127
     → IsPlayable tracks es → IsPlayable tracks (told_live o change es)
 told_playable tracks o change es short low h =
     let block : ℕ → Told → MidiEvent → Block = λ z s e. live_block (live_setup o change (events_on z es)) s e in
