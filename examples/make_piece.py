@@ -45,24 +45,44 @@ def part(channel, name, program, volume, notes):
     return track(events)
 
 
-tempo = track([
-    (0, text(0x03, "cadence in A")),
-    (0, b"\xff\x58\x04\x04\x02\x18\x08"),
-    (0, b"\xff\x51\x03\x0a\x2c\x2a"),
-])
-upper = part(0, "upper", 73, 100, [
-    (0, 1, 76, 80), (1, 1, 78, 76), (2, 1, 76, 76), (3, 1, 73, 72),
-    (4, 1.5, 74, 80), (5.5, 0.5, 73, 70), (6, 1, 71, 76), (7, 1, 68, 72),
-    (8, 4, 69, 84),
-])
-middle = part(1, "middle", 71, 90, [
-    (0, 2, 73, 70), (2, 2, 69, 70), (4, 2, 66, 70), (6, 2, 64, 70), (8, 4, 64, 70),
-])
-lower = part(2, "lower", 70, 96, [
-    (0, 2, 57, 76), (2, 2, 54, 76), (4, 2, 50, 76), (6, 2, 52, 80), (8, 4, 45, 84),
-])
-tracks = [tempo, upper, middle, lower]
-header = b"MThd" + struct.pack(">IHHH", 6, 1, len(tracks), DIVISION)
-path = os.path.join(os.path.dirname(os.path.abspath(__file__)), "piece.mid")
-with open(path, "wb") as out:
-    out.write(header + b"".join(tracks))
+def opening(name, beats_a_bar, beats_a_minute):
+    """The first track: the piece's name, its bar of quarters, and its tempo."""
+    return track([
+        (0, text(0x03, name)),
+        (0, b"\xff\x58\x04" + bytes([beats_a_bar, 2, 24, 8])),
+        (0, b"\xff\x51\x03" + (60_000_000 // beats_a_minute).to_bytes(3, "big")),
+    ])
+
+
+def write(name, tracks):
+    """Writes a file of format 1 beside this script."""
+    header = b"MThd" + struct.pack(">IHHH", 6, 1, len(tracks), DIVISION)
+    path = os.path.join(os.path.dirname(os.path.abspath(__file__)), name)
+    with open(path, "wb") as out:
+        out.write(header + b"".join(tracks))
+
+
+def key_of(name):
+    """The key of a note by its name: C4 is middle C, key 60; # is a sharp, b a flat."""
+    return 12 + 12 * int(name[-1]) + "C D EF G A B".index(name[0]) + name.count("#") - name.count("b")
+
+
+def main():
+    write("piece.mid", [
+        opening("cadence in A", 4, 90),
+        part(0, "upper", 73, 100, [
+            (0, 1, 76, 80), (1, 1, 78, 76), (2, 1, 76, 76), (3, 1, 73, 72),
+            (4, 1.5, 74, 80), (5.5, 0.5, 73, 70), (6, 1, 71, 76), (7, 1, 68, 72),
+            (8, 4, 69, 84),
+        ]),
+        part(1, "middle", 71, 90, [
+            (0, 2, 73, 70), (2, 2, 69, 70), (4, 2, 66, 70), (6, 2, 64, 70), (8, 4, 64, 70),
+        ]),
+        part(2, "lower", 70, 96, [
+            (0, 2, 57, 76), (2, 2, 54, 76), (4, 2, 50, 76), (6, 2, 52, 80), (8, 4, 45, 84),
+        ]),
+    ])
+
+
+if __name__ == "__main__":
+    main()
