@@ -33,10 +33,11 @@ while IFS="$(printf '\t')" read -r pattern _ meaning cause remedy; do
 done <"$docs/faults.tsv"
 
 # The names that the line doesn't have.
-scale='' out='' input=''
+scale='' map='' out='' input=''
 while [ $# -gt 0 ]; do
     case $1 in
         --scale) scale=$2 ;;
+        --map) map=$2 ;;
         --out) out=$2 ;;
     esac
     input=$1
@@ -44,8 +45,10 @@ while [ $# -gt 0 ]; do
 done
 case $line in
     'mtune: cannot load scale') unread "$scale" ;;
+    'mtune: cannot load map') unread "$map" ;;
     'mtune: cannot load input') unread "$input" ;;
     'mtune: cannot store') unwritten "$out" ;;
+    'mtune: too long map' | 'mtune: map line '* | *'not mapped') echo "The mapping is $map." ;;
     *scale*) echo "The scale is $scale." ;;
     *input* | *'not yet'*) echo "The input is $input." ;;
 esac

@@ -109,6 +109,16 @@ run --scale make_piece.py --a440 --route dump --out "$room/out.mid" piece.mid
 [ "$status" -eq 2 ] || fail "status $status, and 2 is wanted"
 explains 'The scale is make_piece.py.'
 
+begin a mapping that is none
+run --scale meantone.scl --map make_piece.py --route dump --out "$room/out.mid" piece.mid
+[ "$status" -eq 2 ] || fail "status $status, and 2 is wanted"
+explains 'The mapping is make_piece.py.'
+
+begin a missing mapping
+run --scale meantone.scl --map no.kbm --route dump --out "$room/out.mid" piece.mid
+ends 3 'mtune: cannot load map'
+explains 'There is no no.kbm.'
+
 begin an output in a missing folder
 run --scale meantone.scl --a440 --route dump --out "$room/no/out.mid" piece.mid
 ends 3 'mtune: cannot store'
@@ -144,15 +154,19 @@ done <"$room/rows"
 
 begin each line that the program has
 for kind in 1 2 3 4 5 6 7 8 9; do echo "2 mtune: scale line 12 kind $kind"; done >"$room/lines"
+for kind in 1 2 3 4 5 6 7; do echo "2 mtune: map line 12 kind $kind"; done >>"$room/lines"
 for kind in 1 2 3 4 5 6 7 8 9 10 11 12 13; do echo "2 mtune: input byte 12 kind $kind"; done >>"$room/lines"
 cat >>"$room/lines" <<'END'
 1 mtune: usage 1
 2 mtune: not yet 2
 2 mtune: not yet 3
 2 mtune: too long scale
+2 mtune: too long map
 2 mtune: too long input
+2 mtune: reference key 61 is not mapped
 2 mtune: key 0 has more than 1700 ratio terms
 3 mtune: cannot load scale
+3 mtune: cannot load map
 3 mtune: cannot load input
 3 mtune: cannot store
 4 mtune: out of memory
@@ -210,7 +224,7 @@ explains 'mtune: proving and building'
 
 begin the manual page
 page=$copy/docs/mtune.1
-tr -s ' ' '\n' <"$copy/docs/usage.txt" | grep -e '^--' | sort -u | sed 's/^--/-/' >"$room/options"
+tr -s ' []' '\n' <"$copy/docs/usage.txt" | grep -e '^--' | sort -u | sed 's/^--/-/' >"$room/options"
 sed -n 's/^\.It Fl \(-[a-z0-9]*\).*/\1/p' "$page" | sort -u | cmp -s - "$room/options" || fail "it has other options than docs/usage.txt"
 if command -v mandoc >/dev/null; then
     mandoc -T lint "$page" >"$room/lint" || fail "$(cat "$room/lint")"

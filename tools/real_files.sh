@@ -94,6 +94,17 @@ is_retuned out.mid
 has out.mid
 [ "$(find out.mid -perm 640)" ] || fail "its permissions are others"
 
+begin a mapping of each key to the next note
+printf '0\n0\n127\n60\n69\n440.0\n12\n' >next.kbm
+run --scale e12.scl --map next.kbm --route dump --out out.mid in.mid
+is_retuned out.mid
+has next.kbm out.mid
+
+begin no mapping
+run --scale e12.scl --route dump --out out.mid in.mid
+is_retuned out.mid
+has out.mid
+
 begin the output named as the input
 retune e12.scl in.mid in.mid
 is_retuned in.mid
@@ -155,6 +166,17 @@ begin a scale that is none
 echo 12 >e12.scl
 retune e12.scl out.mid in.mid
 ends 2 'mtune: scale line 2 kind 2'
+has
+
+begin a mapping that is none
+echo 12 >white.kbm
+run --scale e12.scl --map white.kbm --route dump --out out.mid in.mid
+ends 2 'mtune: map line 2 kind 1'
+has white.kbm
+
+begin a missing mapping
+run --scale e12.scl --map no.kbm --route dump --out out.mid in.mid
+ends 3 'mtune: cannot load map'
 has
 
 begin an empty input

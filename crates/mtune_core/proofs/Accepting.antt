@@ -1,60 +1,76 @@
 -- Where the words and the contents are accepted and no count rose, no fault but want of memory has its cause.
-use Rattle.std.proofs.Common.{◌≡◌, ◌<◌, ◌≤◌, ◌⊎◌, ℕ, List, [], ◌∷◌, ◌++◌, length, true, Option, Some, None, is_some, refl, ap, subst, ◌∙◌, inl, inr, arith}
+use Rattle.std.proofs.Common.{◌≡◌, ◌<◌, ◌⊎◌, ℕ, List, [], ◌∷◌, ◌++◌, length, true, Option, Some, None, is_some, refl, ap, sym, subst, ◌∙◌, inl, inr, arith}
 use Rattle.std.specs.List.{AllByRecursion}
 use Rattle.mt_base.specs.Midi.{MidiEvent}
 use Rattle.scala_lines.specs.Lines.{lines_of}
 use Rattle.scl_text.specs.declared.entry.Entry.{Entry}
 use Rattle.scl_text.specs.declared.fault.SclKind.{SclKind}
 use Rattle.scl_text.specs.Spelling.{ScaleText, ScaleFault}
+use Rattle.kbm_text.specs.declared.fault.KbmKind.{KbmKind}
+use Rattle.kbm_text.specs.Map.{KeyMap}
+use Rattle.kbm_text.specs.Spelling.{MapText, MapFault}
 use Rattle.midi_model.specs.declared.fault.SmfKind.{SmfKind}
 use Rattle.midi_model.specs.FileText.{MidiFile}
 use Rattle.midi_model.specs.Faults.{FirstFault}
 use Rattle.midi_model.specs.Spelling.{Spells}
-use Rattle.kbm_text.specs.Map.{a440}
-use Rattle.retune_model.specs.Scale.{term_count}
-use Rattle.retune_model.specs.Table.{IsTable}
+use Rattle.retune_model.specs.Table.{IsTable, one_scale}
 use Rattle.retune_model.specs.Dump.{tuning_at}
 use Rattle.retune_model.specs.Faults.{Targets}
 use Rattle.mtune_files.specs.Counts.{next, one_load, one_store, one_say, loads_of}
 use Rattle.mtune_files.specs.Names.{Held, content_at}
-use Rattle.mtune_files.specs.Outside.{Outside, IsContent, HasContent, after_load}
+use Rattle.mtune_files.specs.Outside.{Outside, IsContent, HasContent, IsLongerThan, after_load}
 use Rattle.mtune_files.specs.declared.counts.Counts.{Counts}
 use Rattle.mtune_files.specs.declared.which.Which.{Which}
 use Rattle.mtune_files.specs.declared.which.Which.TheVariants.{Scale, Map, Input}
 use Rattle.mtune_core.specs.declared.outcome.Fault.{Fault}
-use Rattle.mtune_core.specs.declared.outcome.Fault.TheVariants.{Usage, NotYet, Load, TooLong, Scl, TooManyPeriods, Smf, Store, Say, Memory}
+use Rattle.mtune_core.specs.declared.outcome.Fault.TheVariants.{Usage, NotYet, Load, TooLong, Scl, Kbm, ReferenceUnmapped, TooManyPeriods, Smf, Store, Say, Memory}
 use Rattle.mtune_core.specs.Accepted.{IsAccepted, NoneRose}
 use Rattle.mtune_core.specs.Call.{CommandCause, IsRefused}
-use Rattle.mtune_core.specs.Command.{Command, command_of}
-use Rattle.mtune_core.specs.Contents.{At, LoadCause}
+use Rattle.mtune_core.specs.Command.{Command, command_of, MapChoice, Named, At440, Standard}
+use Rattle.mtune_core.specs.Contents.{Content, At, LoadCause}
 use Rattle.mtune_core.specs.Limits.{text_limit, input_limit}
 use Rattle.mtune_core.specs.Lines.{fault_line}
 use Rattle.mtune_core.specs.Retuned.{AreTaken, HasUntaken, HasUnplayed, InputCause}
 use Rattle.mtune_core.specs.Source.{is_taken}
-use Rattle.mtune_core.specs.Table.{IsScale, IsOneTable, IsTuneFault, TextCause, scaling_of}
+use Rattle.mtune_core.specs.Table.{IsScaleAt, IsMappingAt, Tuning, scaling_of, IsTuneFault, ScaleCause, MapCause, MappingCause, TableFrom, TableCause, after_texts}
 use Rattle.mtune_core.proofs.Ended.{clash, MaySay, told_faults}
 
--- A text has one scale or a fault, and bytes have one file or a fault.
+-- A text has one scale or a fault, one mapping or a fault, and bytes have one file or a fault.
 pub record OneAnswer : Type 0 where
   pub one_scale : (lines : List (List ℕ)) (es fs : List Entry) → ScaleText lines es → ScaleText lines fs → es ≡ fs
   pub no_scale_fault : (lines : List (List ℕ)) (entries : List Entry) (line : ℕ) (kind : SclKind) → ScaleText lines entries → ScaleFault lines line kind → ⊥
+  pub one_mapping : (lines : List (List ℕ)) (m n : KeyMap) → MapText lines m → MapText lines n → m ≡ n
+  pub no_mapping_fault : (lines : List (List ℕ)) (m : KeyMap) (line : ℕ) (kind : KbmKind) → MapText lines m → MapFault lines line kind → ⊥
   pub one_file : (bytes : List ℕ) (a b : MidiFile) → Spells bytes a → Spells bytes b → a ≡ b
   pub no_file_fault : (bytes : List ℕ) (file : MidiFile) (offset : ℕ) (kind : SmfKind) → Spells bytes file → FirstFault bytes offset kind → ⊥
 
 -- ---- a name holds one content
-same_content : (held : Option Held) (names : Held) (name a b : List ℕ) → held ≡ Some names → content_at names name ≡ Some a → IsContent held name b → b ≡ a
-same_content held names name a b told mine other = let yours : content_at names name ≡ Some b = subst (λ h. IsContent h name b) told other in cc
+same_content : (held : Option Held) (names : Held) (name a b : List ℕ) → held ≡ Some names → IsContent held name a → IsContent held name b → b ≡ a
+same_content held names name a b told one other =
+    let mine : content_at names name ≡ Some a = subst (λ h. IsContent h name a) told one in
+    let yours : content_at names name ≡ Some b = subst (λ h. IsContent h name b) told other in cc
 
-not_longer : (held : Option Held) (names : Held) (name a : List ℕ) (limit : ℕ) → held ≡ Some names → content_at names name ≡ Some a → length a ≤ limit
-    → HasContent held name (λ content. limit < length content) → ⊥
-not_longer held names name a limit told mine short long =
+not_longer : (o : Outside) (names : Held) (name : List ℕ) (limit : ℕ) → o.held ≡ Some names → Content o name limit → IsLongerThan o name limit → ⊥
+not_longer o names name limit told mine long =
     let other : (content : List ℕ) × (content_at names name ≡ Some content) × (limit < length content) = subst (λ h. HasContent h name (λ content. limit < length content)) told long in
-    let same : other.0 ≡ a = let yours : content_at names name ≡ Some other.0 = other.1 in cc in
-    let over : limit < length a = subst (λ c. limit < length c) same other.2 in
+    let same : other.0 ≡ mine.bytes = same_content (Some names) names name mine.bytes other.0 refl (subst (λ h. IsContent h name mine.bytes) told mine.held) other.1 in
+    let over : limit < length mine.bytes = subst (λ c. limit < length c) same other.2 in
+    let short = mine.short in
     absurd (omega (arith, over, short))
 
-its_bytes : (o : Outside) (names : Held) (name a : List ℕ) (limit : ℕ) (P : List ℕ → Type 0) → o.held ≡ Some names → content_at names name ≡ Some a → At o name limit P → P a
-its_bytes o names name a limit P told mine at = subst P (same_content o.held names name a at.0.bytes told mine at.0.held) at.1
+-- what holds of some content of the name holds of each
+its_bytes : (o : Outside) (names : Held) (name : List ℕ) (limit : ℕ) (P : List ℕ → Type 0) → o.held ≡ Some names → (mine : Content o name limit) → At o name limit P → P mine.bytes
+its_bytes o names name limit P told mine at = subst P (same_content o.held names name mine.bytes at.0.bytes told mine.held at.0.held) at.1
+
+same_scale : OneAnswer → (o : Outside) (names : Held) (name : List ℕ) (es fs : List Entry) → o.held ≡ Some names → IsScaleAt o name es → IsScaleAt o name fs → fs ≡ es
+same_scale laws o names name es fs told mine other =
+    laws.one_scale (lines_of mine.0.bytes) fs es (its_bytes o names name text_limit (λ text. ScaleText (lines_of text) fs) told mine.0 other) mine.1
+
+same_mapping : OneAnswer → (o : Outside) (names : Held) (choice : MapChoice) (m n : KeyMap) → o.held ≡ Some names → IsMappingAt o choice m → IsMappingAt o choice n → n ≡ m
+same_mapping laws o names (Named name) m n told mine other =
+    laws.one_mapping (lines_of mine.0.bytes) n m (its_bytes o names name text_limit (λ text. MapText (lines_of text) n) told mine.0 other) mine.1
+same_mapping laws o names At440 m n told mine other = other ∙ sym mine
+same_mapping laws o names Standard m n told mine other = other ∙ sym mine
 
 -- ---- counts that rose
 loads_stay : (which : Which) (before now : Counts) → MaySay before now → loads_of which now ≡ loads_of which before
@@ -91,60 +107,92 @@ taken_there (x ∷ xs) back e h = taken_there xs back e h.1
 none_untaken : (source : MidiFile) → AreTaken source → HasUntaken source → ⊥
 none_untaken source taken u = clash (is_taken u.1.what) (taken_there u.0 u.2 u.1 (subst (λ es. AllByRecursion (λ x. is_taken x.what ≡ true) es) u.3 taken)) u.4
 
-none_unplayed : (o : Outside) (words : List (List ℕ)) (a : IsAccepted o words) (table : Targets) → IsTable (scaling_of a.entries) table → HasUnplayed table a.source → ⊥
+none_unplayed : (o : Outside) (words : List (List ℕ)) (a : IsAccepted o words) (table : Targets) → IsTable (scaling_of a.tuning) table → HasUnplayed table a.source → ⊥
 none_unplayed o words a table is_table u = clash (is_some (tuning_at table u.0)) (a.playable table is_table u.0 u.1 u.2) (ap is_some u.3)
 
 not_yet : OneAnswer → (o : Outside) (words : List (List ℕ)) (a : IsAccepted o words) (table : Targets) (kind : ℕ)
-    → IsTable (scaling_of a.entries) table → InputCause table a.input (NotYet kind) → ⊥
+    → IsTable (scaling_of a.tuning) table → InputCause table a.input.bytes (NotYet kind) → ⊥
 not_yet laws o words a table kind is_table cause =
-    let same : cause.0 ≡ a.source = laws.one_file a.input cause.0 a.source cause.1 a.spelled in
+    let same : cause.0 ≡ a.source = laws.one_file a.input.bytes cause.0 a.source cause.1 a.spelled in
     elim (subst (λ s. ((kind ≡ 2) × HasUntaken s) ⊎ ((kind ≡ 3) × AreTaken s × HasUnplayed table s)) same cause.2) [
       | inl u ↦ none_untaken a.source a.taken u.1
       | inr u ↦ none_unplayed o words a table is_table u.2
     ]
 
-too_many : OneAnswer → (o : Outside) (words : List (List ℕ)) (a : IsAccepted o words) (key : ℕ)
-    → ((entries : List Entry) × ScaleText (lines_of a.text) entries × IsTuneFault entries (TooManyPeriods key)) → ⊥
-too_many laws o words a key x =
-    let same : x.0 ≡ a.entries = laws.one_scale (lines_of a.text) x.0 a.entries x.1 a.is_scale.read in
-    let many : 1700 < term_count a.entries a440 key = subst (λ es. 1700 < term_count es a440 key) same x.2.1 in
-    let few : term_count a.entries a440 key ≤ 1700 = a.is_scale.few key 0 x.2.0 in
-    absurd (omega (arith, many, few))
-
 -- ---- each cause
-load_free : (which : Which) (name : List ℕ) (limit : ℕ) (before mid : Outside) (now : Counts) (names : Held) (a : List ℕ) (fault : Fault)
-    → before.held ≡ Some names → content_at names name ≡ Some a → length a ≤ limit → NoneRose before.faults now → MaySay mid.faults now
+load_free : (which : Which) (name : List ℕ) (limit : ℕ) (before mid : Outside) (now : Counts) (names : Held) (fault : Fault)
+    → before.held ≡ Some names → Content before name limit → NoneRose before.faults now → MaySay mid.faults now
     → LoadCause which name limit before mid fault → fault ≡ Memory
-load_free which name limit before mid now names a (Load w) told mine short none s h = absurd (load_rose which before.faults mid.faults now none (ap (λ (o : Outside). o.faults) h.2) s)
-load_free which name limit before mid now names a (TooLong w) told mine short none s h = absurd (not_longer before.held names name a limit told mine short h.1)
-load_free which name limit before mid now names a Memory told mine short none s h = refl
-load_free which name limit before mid now names a fault told mine short none s h = absurd h
+load_free which name limit before mid now names (Load w) told mine none s h = absurd (load_rose which before.faults mid.faults now none (ap (λ (o : Outside). o.faults) h.2) s)
+load_free which name limit before mid now names (TooLong w) told mine none s h = absurd (not_longer before names name limit told mine h.1)
+load_free which name limit before mid now names Memory told mine none s h = refl
+load_free which name limit before mid now names fault told mine none s h = absurd h
 
-text_free : OneAnswer → (o : Outside) (words : List (List ℕ)) (a : IsAccepted o words) (fault : Fault) → TextCause a.text fault → fault ≡ Memory
-text_free laws o words a (Scl line kind) h = absurd (laws.no_scale_fault (lines_of a.text) a.entries line kind a.is_scale.read h)
-text_free laws o words a (TooManyPeriods key) h = absurd (too_many laws o words a key h)
-text_free laws o words a Memory h = refl
-text_free laws o words a fault h = absurd h
+scale_free : OneAnswer → (text : List ℕ) (entries : List Entry) (fault : Fault) → ScaleText (lines_of text) entries → ScaleCause text fault → fault ≡ Memory
+scale_free laws text entries (Scl line kind) read h = absurd (laws.no_scale_fault (lines_of text) entries line kind read h)
+scale_free laws text entries Memory read h = refl
+scale_free laws text entries fault read h = absurd h
 
-input_free : OneAnswer → (o : Outside) (words : List (List ℕ)) (a : IsAccepted o words) (table : Targets) → IsTable (scaling_of a.entries) table
-    → (fault : Fault) → InputCause table a.input fault → fault ≡ Memory
-input_free laws o words a table is_table (Smf offset kind) h = absurd (laws.no_file_fault a.input a.source offset kind a.spelled h)
+map_free : OneAnswer → (text : List ℕ) (m : KeyMap) (fault : Fault) → MapText (lines_of text) m → MapCause text fault → fault ≡ Memory
+map_free laws text m (Kbm line kind) read h = absurd (laws.no_mapping_fault (lines_of text) m line kind read h)
+map_free laws text m Memory read h = refl
+map_free laws text m fault read h = absurd h
+
+-- a mapping that is read, of which the outside before its load is told
+mapping_free : OneAnswer → (choice : MapChoice) (o mid : Outside) (now : Counts) (names : Held) (m : KeyMap) (fault : Fault) → o.held ≡ Some names → IsMappingAt o choice m
+    → NoneRose o.faults now → MaySay mid.faults now → MappingCause choice (after_load Scale o) mid fault → fault ≡ Memory
+mapping_free laws (Named name) o mid now names m fault told mine none s (inl h) =
+    load_free Map name text_limit (after_load Scale o) mid now names fault told (record { bytes = mine.0.bytes; held = mine.0.held; short = mine.0.short }) none s h
+mapping_free laws (Named name) o mid now names m fault told mine none s (inr h) =
+    map_free laws mine.0.bytes m fault mine.1 (its_bytes (after_load Scale o) names name text_limit (λ t. MapCause t fault) told (record { bytes = mine.0.bytes; held = mine.0.held; short = mine.0.short }) h.0)
+mapping_free laws At440 o mid now names m fault told mine none s h = absurd h
+mapping_free laws Standard o mid now names m fault told mine none s h = absurd h
+
+no_tune_fault : (o : Outside) (c : Command) (t : Tuning o c) (fault : Fault) → IsTuneFault t.entries t.mapping fault → ⊥
+no_tune_fault o c t (ReferenceUnmapped key) h = t.mapped h.1
+no_tune_fault o c t (TooManyPeriods key) h =
+    let many = h.2 in
+    let few = t.few key 0 h.1 in
+    absurd (omega (arith, many, few))
+no_tune_fault o c t fault h = absurd h
+
+input_free : OneAnswer → (o : Outside) (words : List (List ℕ)) (a : IsAccepted o words) (table : Targets) → IsTable (scaling_of a.tuning) table
+    → (fault : Fault) → InputCause table a.input.bytes fault → fault ≡ Memory
+input_free laws o words a table is_table (Smf offset kind) h = absurd (laws.no_file_fault a.input.bytes a.source offset kind a.spelled h)
 input_free laws o words a table is_table (NotYet kind) h = absurd (not_yet laws o words a table kind is_table h)
 input_free laws o words a table is_table Memory h = refl
 input_free laws o words a table is_table fault h = absurd h
 
+no_table_cause : OneAnswer → (before mid : Outside) (c : Command) (names : Held) (t : Tuning before c) (now : Counts) → before.held ≡ Some names → NoneRose before.faults now → MaySay mid.faults now
+    → (fault : Fault) → TableCause c before mid fault → fault ≡ Memory
+no_table_cause laws before mid c names t now told none s fault (inl (inl h)) = load_free Scale c.scale text_limit before mid now names fault told t.is_scale.0 none s h
+no_table_cause laws before mid c names t now told none s fault (inl (inr h)) =
+    scale_free laws t.is_scale.0.bytes t.entries fault t.is_scale.1 (its_bytes before names c.scale text_limit (λ b. ScaleCause b fault) told t.is_scale.0 h.0)
+no_table_cause laws before mid c names t now told none s fault (inr h) =
+    let scale : h.0 ≡ t.entries = same_scale laws before names c.scale t.entries h.0 told t.is_scale h.1 in
+    elim h.2 [
+      | inl l ↦ mapping_free laws c.mapping before mid now names t.mapping fault told t.is_mapping none s l
+      | inr r ↦
+          let mapping : r.0 ≡ t.mapping = same_mapping laws before names c.mapping t.mapping r.0 told t.is_mapping r.1 in
+          absurd (no_tune_fault before c t fault (subst (λ es. IsTuneFault es t.mapping fault) scale (subst (λ m. IsTuneFault h.0 m fault) mapping r.3)))
+    ]
+
+its_table : OneAnswer → (o : Outside) (c : Command) (names : Held) (t : Tuning o c) (table : Targets) → o.held ≡ Some names → TableFrom o c table → IsTable (scaling_of t) table
+its_table laws o c names t table told from =
+    let scale : from.0.entries ≡ t.entries = same_scale laws o names c.scale t.entries from.0.entries told t.is_scale from.0.is_scale in
+    let mapping : from.0.mapping ≡ t.mapping = same_mapping laws o names c.mapping t.mapping from.0.mapping told t.is_mapping from.0.is_mapping in
+    subst (λ es. IsTable (one_scale es t.mapping) table) scale (subst (λ m. IsTable (one_scale from.0.entries m) table) mapping from.1.is_table)
+
 no_cause : OneAnswer → (before mid : Outside) (words : List (List ℕ)) (a : IsAccepted before words) (now : Counts) → NoneRose before.faults now → MaySay mid.faults now
     → (fault : Fault) → CommandCause a.command before mid fault → fault ≡ Memory
-no_cause laws before mid words a now none s fault (inl (inl h)) = load_free Scale a.command.scale text_limit before mid now a.names a.text fault a.told a.scale_held a.scale_short none s h
-no_cause laws before mid words a now none s fault (inl (inr h)) = text_free laws before words a fault (its_bytes before a.names a.command.scale a.text text_limit (λ t. TextCause t fault) a.told a.scale_held h.0)
+no_cause laws before mid words a now none s fault (inl h) = no_table_cause laws before mid a.command a.names a.tuning now a.told none s fault h
 no_cause laws before mid words a now none s fault (inr h) =
-    let from : (entries : List Entry) × IsScale a.text entries × IsOneTable (scaling_of entries) h.0 =
-    its_bytes before a.names a.command.scale a.text text_limit (λ t. (entries : List Entry) × IsScale t entries × IsOneTable (scaling_of entries) h.0) a.told a.scale_held h.1 in
-    let same : from.0 ≡ a.entries = laws.one_scale (lines_of a.text) from.0 a.entries from.1.read a.is_scale.read in
-    let is_table : IsTable (scaling_of a.entries) h.0 = subst (λ es. IsTable (scaling_of es) h.0) same from.2.is_table in
+    let o = after_texts a.command before in
+    let mine : Content o a.command.input input_limit = record { bytes = a.input.bytes; held = a.input.held; short = a.input.short } in
     elim h.2 [
-      | inl l ↦ load_free Input a.command.input input_limit (after_load Scale before) mid now a.names a.input fault a.told a.input_held a.input_short none s l
-      | inr r ↦ input_free laws before words a h.0 is_table fault (its_bytes (after_load Scale before) a.names a.command.input a.input input_limit (λ t. InputCause h.0 t fault) a.told a.input_held r.0)
+      | inl l ↦ load_free Input a.command.input input_limit o mid now a.names fault a.told mine none s l
+      | inr r ↦ input_free laws before words a h.0 (its_table laws before a.command a.names a.tuning h.0 a.told h.1) fault
+          (its_bytes o a.names a.command.input input_limit (λ t. InputCause h.0 t fault) a.told mine r.0)
     ]
 
 -- the cause of a command is that of the words' own

@@ -14,5 +14,6 @@ pub mod Retuned
 pub mod Ended
 pub mod Stages
 pub mod Steps
+pub mod OfContent
 pub mod Accepting
 pub mod Reach

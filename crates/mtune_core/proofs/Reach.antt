@@ -7,12 +7,10 @@ use Rattle.std.proofs.Math.Nat.{div-le_of_le-mul}
 use Rattle.mt_base.specs.Laws.{EndsInOrder}
 use Rattle.mt_base.specs.Pitch.{Pitch, IsPitch, AtLeast, AtMost}
 use Rattle.midi_model.specs.FileText.{MidiFile}
-use Rattle.scl_text.specs.declared.entry.Entry.{Entry}
-use Rattle.retune_model.specs.Table.{Bounds, AreBounds, Bound, AreFewTerms, IsTable, up_to, tuning_target, terms_at, ratios_at_key}
+use Rattle.retune_model.specs.Table.{Scaling, Bounds, AreBounds, Bound, AreFewTerms, IsTable, up_to, tuning_target, terms_at, ratios_at_key}
 use Rattle.retune_model.specs.Faults.{Targets}
 use Rattle.retune_model.specs.Dump.{tuning_if, tuning_at}
 use Rattle.mtune_core.specs.Accepted.{IsInReach, AreInReach, ArePlayable}
-use Rattle.mtune_core.specs.Table.{scaling_of}
 
 -- half a step more than 12,700 cents lies before the end of the greatest step
 step_fits : (z : ℤ) → pos 0 ≤ℤ z → z ≤ℤ pos 406400097656250 → is_some (up_to 2097150 (int_div_euclid z (pos 195312500))) ≡ true
@@ -35,12 +33,10 @@ bound_fits : EndsInOrder → (p : Pitch) (terms : ℕ) (ratios : List (ℕ × �
 bound_fits ends p terms ratios None a few is least most = absurd a
 bound_fits ends p terms ratios (Some b) a few is least most = bounds_fit ends p terms ratios b a few is least most
 
-key_fits : EndsInOrder → (entries : List Entry) (table : Targets) (key : ℕ) → AreFewTerms (scaling_of entries) → IsTable (scaling_of entries) table → key ≤ 127
-    → IsInReach entries key → is_some (tuning_at table key) ≡ true
-key_fits ends entries table key few is_table low r =
-    let s = scaling_of entries in
+key_fits : EndsInOrder → (s : Scaling) (table : Targets) (key : ℕ) → AreFewTerms s → IsTable s table → key ≤ 127 → IsInReach s key → is_some (tuning_at table key) ≡ true
+key_fits ends s table key few is_table low r =
     bound_fits ends r.pitch (terms_at s key 0) (ratios_at_key s key 0) (table key 0)
     (subst (λ o. Bound (terms_at s key 0) (ratios_at_key s key 0) o (table key 0)) r.of_key (is_table.bounds key 0 low)) (few key 0 low) r.is_pitch r.least r.most
 
-pub in_reach_is_playable : EndsInOrder → (entries : List Entry) (source : MidiFile) → AreFewTerms (scaling_of entries) → AreInReach entries source → ArePlayable entries source
-in_reach_is_playable ends entries source few reach = λ table is_table key low uses. key_fits ends entries table key few is_table (omega (arith, low)) (reach key low uses)
+pub in_reach_is_playable : EndsInOrder → (s : Scaling) (source : MidiFile) → AreFewTerms s → AreInReach s source → ArePlayable s source
+in_reach_is_playable ends s source few reach = λ table is_table key low uses. key_fits ends s table key few is_table (omega (arith, low)) (reach key low uses)

@@ -2,8 +2,8 @@
 use Rattle.std.proofs.Common.{◌≡◌, ℕ, List, true, false, Some, Result, Ok, Err, ap, subst, ◌∙◌, inr}
 use Rattle.std.specs.Prelude.{IfOk, IfErr, OnOk, OnErr, is_err}
 use Rattle.retune_model.specs.Faults.{Targets}
-use Rattle.mtune_files.specs.Outside.{Outside, after_load, after_store}
-use Rattle.mtune_files.specs.declared.which.Which.TheVariants.{Scale, Input}
+use Rattle.mtune_files.specs.Outside.{Outside, after_store}
+use Rattle.mtune_files.specs.declared.which.Which.TheVariants.{Input}
 use Rattle.mtune_core.specs.declared.retuning.Made.{Made}
 use Rattle.mtune_core.specs.declared.outcome.Fault.{Fault}
 use Rattle.mtune_core.specs.Call.{IsPrepared, IsMade, CommandCause, after_loads}
@@ -12,25 +12,23 @@ use Rattle.mtune_core.specs.Contents.{ContentCause}
 use Rattle.mtune_core.specs.Limits.{input_limit}
 use Rattle.mtune_core.specs.Made.{MadeFrom}
 use Rattle.mtune_core.specs.Retuned.{InputCause}
-use Rattle.mtune_core.specs.Table.{TableFrom, scaling_of}
+use Rattle.mtune_core.specs.Table.{TableFrom, scaling_of, after_texts}
 
 -- ---- from the table to what is made
-pub prepared : (r : Result Made Fault) (o mid : Outside) (c : Command) (table : Targets) → mid ≡ after_load Scale o → TableFrom o c.scale table
+pub prepared : (r : Result Made Fault) (o mid : Outside) (c : Command) (table : Targets) → mid ≡ after_texts c o → TableFrom o c table
     → IfOk r (λ made. MadeFrom mid c.input table made.output.items made.report.items) → IfOk r (λ made. IsPrepared o c made.output.items made.report.items)
 prepared (Ok made) o mid c table e t m =
-    let n : MadeFrom (after_load Scale o) c.input table made.output.items made.report.items = subst (λ p. MadeFrom p c.input table made.output.items made.report.items) e m in
+    let n : MadeFrom (after_texts c o) c.input table made.output.items made.report.items = subst (λ p. MadeFrom p c.input table made.output.items made.report.items) e m in
     record {
-      text = t.0;
-      entries = t.1.0;
-      is_scale = t.1.1;
+      tuning = t.0;
       table = table;
-      is_table = t.1.2;
+      is_table = t.1;
       input = record { bytes = n.0.bytes; held = n.0.held; short = n.0.short };
-      retuned = n.1 (scaling_of t.1.0) t.1.2 t.1.1.few;
+      retuned = n.1 (scaling_of t.0) t.1 t.0.few;
     }
 prepared (Err fault) o mid c table e t m = tt
 
-pub input_stopped : (r : Result Made Fault) (o mid now : Outside) (c : Command) (table : Targets) → mid ≡ after_load Scale o → TableFrom o c.scale table
+pub input_stopped : (r : Result Made Fault) (o mid now : Outside) (c : Command) (table : Targets) → mid ≡ after_texts c o → TableFrom o c table
     → IfErr r (λ e. ContentCause Input c.input input_limit (InputCause table) mid now e) → IfErr r (λ e. CommandCause c o now e)
 input_stopped (Ok made) o mid now c table e t h = tt
 input_stopped (Err fault) o mid now c table e t h = inr (table, t, subst (λ p. ContentCause Input c.input input_limit (InputCause table) p now fault) e h)
@@ -47,6 +45,6 @@ pub of_ok : {T E : Type 0} {P : Type 0} (r : Result T E) → false ≡ is_err r 
 of_ok (Ok x) e h = h
 of_ok (Err x) e h = absurd cc
 
-pub is_stored : (o mid now : Outside) (name content seen : List ℕ) → mid ≡ after_loads o → now ≡ after_store name seen mid → seen ≡ content
-    → now ≡ after_store name content (after_loads o)
-is_stored o mid now name content seen loaded stored same = stored ∙ ap (λ p. after_store name seen p) loaded ∙ ap (λ b. after_store name b (after_loads o)) same
+pub is_stored : (o mid now : Outside) (c : Command) (name content seen : List ℕ) → mid ≡ after_loads c o → now ≡ after_store name seen mid → seen ≡ content
+    → now ≡ after_store name content (after_loads c o)
+is_stored o mid now c name content seen loaded stored same = stored ∙ ap (λ p. after_store name seen p) loaded ∙ ap (λ b. after_store name b (after_loads c o)) same

@@ -1,30 +1,26 @@
 -- How a call ends: the outside before it and after.
 use Rattle.std.specs.Prelude.{ℕ, ◌≡◌, ◌⊎◌, List, Some, None}
-use Rattle.scl_text.specs.declared.entry.Entry.{Entry}
 use Rattle.retune_model.specs.Faults.{Targets}
-use Rattle.mtune_files.specs.declared.which.Which.TheVariants.{Scale, Input}
+use Rattle.mtune_files.specs.declared.which.Which.TheVariants.{Input}
 use Rattle.mtune_files.specs.Outside.{Outside, after_load, after_store, AfterFailedStore, after_say, AfterFailedSay}
 use Rattle.mtune_core.specs.declared.outcome.Fault.{Fault}
 use Rattle.mtune_core.specs.declared.outcome.Fault.TheVariants.{Usage, Store, Say}
 use Rattle.mtune_core.specs.Command.{Command, command_of}
 use Rattle.mtune_core.specs.Contents.{Content, ContentCause}
-use Rattle.mtune_core.specs.Limits.{text_limit, input_limit}
+use Rattle.mtune_core.specs.Limits.{input_limit}
 use Rattle.mtune_core.specs.Lines.{fault_line}
 use Rattle.mtune_core.specs.Retuned.{InputCause, IsRetuned}
-use Rattle.mtune_core.specs.Table.{IsScale, IsOneTable, scaling_of, TextCause, TableFrom}
+use Rattle.mtune_core.specs.Table.{Tuning, IsOneTable, scaling_of, TableFrom, TableCause, after_texts}
 
 -- ---- before the store
 
--- What was made for a command: of a scale that has few enough terms, of one table of it, and of an input, none of them longer
--- than its limit.
+-- What was made for a command: of its scale and mapping, of one table of them, and of an input that isn't longer than its limit.
 pub record IsPrepared (o : Outside) (c : Command) (output report : List ℕ) : Type 0 where
-  pub text : Content o c.scale text_limit
-  pub entries : List Entry
-  pub is_scale : IsScale text.bytes entries
+  pub tuning : Tuning o c
   pub table : Targets
-  pub is_table : IsOneTable (scaling_of entries) table
+  pub is_table : IsOneTable (scaling_of tuning) table
   pub input : Content o c.input input_limit
-  pub retuned : IsRetuned (scaling_of entries) table input.bytes output report
+  pub retuned : IsRetuned (scaling_of tuning) table input.bytes output report
 
 pub record IsMade (o : Outside) (words : List (List ℕ)) : Type 0 where
   pub command : Command
@@ -33,21 +29,21 @@ pub record IsMade (o : Outside) (words : List (List ℕ)) : Type 0 where
   pub is_command : command_of words ≡ Some command
   pub is_prepared : IsPrepared o command output report
 
--- The work stopped at the scale; or at the input, once the scale had given a table.
+-- The work stopped before there was a table; or at the input, once there was one.
 abbrev pub CommandCause : Command → Outside → Outside → Fault → Type 0
-CommandCause c before now fault = ContentCause Scale c.scale text_limit TextCause before now fault
-    ⊎ ((table : Targets) × TableFrom before c.scale table
-    × ContentCause Input c.input input_limit (InputCause table) (after_load Scale before) now fault)
+CommandCause c before now fault = TableCause c before now fault
+    ⊎ ((table : Targets) × TableFrom before c table
+    × ContentCause Input c.input input_limit (InputCause table) (after_texts c before) now fault)
 
 -- ---- the call
 
 -- each content was loaded once, and nothing else was done
-abbrev pub after_loads : Outside → Outside
-after_loads o = after_load Input (after_load Scale o)
+abbrev pub after_loads : Command → Outside → Outside
+after_loads c o = after_load Input (after_texts c o)
 
 -- and then the output was stored
 abbrev pub stored_for : (before : Outside) (words : List (List ℕ)) → IsMade before words → Outside
-stored_for before words m = after_store m.command.out m.output (after_loads before)
+stored_for before words m = after_store m.command.out m.output (after_loads m.command before)
 
 -- After the loads the output was stored and the report was said, each once.
 abbrev pub IsDone : Outside → Outside → List (List ℕ) → Type 0
@@ -56,7 +52,7 @@ IsDone before now words = (m : IsMade before words) × (now ≡ after_say m.repo
 -- The fault ended the work, and nothing was done after it.
 abbrev pub IsStopped : Outside → Outside → List (List ℕ) → Fault → Type 0
 IsStopped before now words (Usage kind) = (kind ≡ 1) × (command_of words ≡ None) × (now ≡ before)
-IsStopped before now words Store = (m : IsMade before words) × AfterFailedStore m.command.out (after_loads before) now
+IsStopped before now words Store = (m : IsMade before words) × AfterFailedStore m.command.out (after_loads m.command before) now
 IsStopped before now words Say = (m : IsMade before words) × AfterFailedSay m.report (stored_for before words m) now
 IsStopped before now words fault = (c : Command) × (command_of words ≡ Some c) × CommandCause c before now fault
 

@@ -1,12 +1,14 @@
 -- What the program answers for a fault of its parts.
 use Rattle.scl_text.specs.declared.fault.SclFault.{SclFault}
 use Rattle.scl_text.specs.declared.fault.SclFault.TheVariants as scl
+use Rattle.kbm_text.specs.declared.fault.KbmFault.{KbmFault}
+use Rattle.kbm_text.specs.declared.fault.KbmFault.TheVariants as kbm
 use Rattle.smf_read.specs.declared.fault.SmfFault.{SmfFault}
 use Rattle.smf_read.specs.declared.fault.SmfFault.TheVariants as smf
 use Rattle.key_pitch.specs.declared.fault.TuneFault.{TuneFault}
 use Rattle.key_pitch.specs.declared.fault.TuneFault.TheVariants as tune
 use Rattle.mtune_core.specs.declared.outcome.Fault.{Fault}
-use Rattle.mtune_core.specs.declared.outcome.Fault.TheVariants.{Scl, ReferenceUnmapped, TooManyPeriods, Smf, Memory}
+use Rattle.mtune_core.specs.declared.outcome.Fault.TheVariants.{Scl, Kbm, ReferenceUnmapped, TooManyPeriods, Smf, Memory}
 
 abbrev pub of_memory : Fault
 of_memory = Memory
@@ -14,6 +16,10 @@ of_memory = Memory
 abbrev pub of_scale : SclFault → Fault
 of_scale (scl.At line kind) = Scl line kind
 of_scale scl.Memory = Memory
+
+abbrev pub of_mapping : KbmFault → Fault
+of_mapping (kbm.At line kind) = Kbm line kind
+of_mapping kbm.Memory = Memory
 
 abbrev pub of_tuning : TuneFault → Fault
 of_tuning (tune.ReferenceUnmapped key) = ReferenceUnmapped key

@@ -1,7 +1,7 @@
 -- How many bytes a content may have (this project's own).
 use Rattle.std.specs.Prelude.{ℕ}
 
--- a scale
+-- a scale or a mapping
 abbrev pub text_limit : ℕ
 text_limit = 262144
 

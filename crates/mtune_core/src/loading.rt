@@ -6,7 +6,7 @@ use crate::outcome::Fault;
 use mtune_files::{Files, LoadFault, Which};
 use std::alloc::Global;
 
-/// The most bytes that a scale may have.
+/// The most bytes that a scale or a mapping may have.
 pub const TEXT_LIMIT: u32 = 262_144;
 
 /// The most bytes that an input may have.

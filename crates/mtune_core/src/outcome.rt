@@ -1,7 +1,8 @@
 ghost use Rattle.std.specs.Prelude.{◌≡◌};
 ghost use Rattle.mtune_core.specs.Status.{status_of};
-ghost use Rattle.mtune_core.specs.Causes.{of_memory, of_scale, of_tuning, of_file};
+ghost use Rattle.mtune_core.specs.Causes.{of_memory, of_scale, of_mapping, of_tuning, of_file};
 
+use kbm_text::{KbmFault, KbmKind};
 use key_pitch::TuneFault;
 use midi_model::SmfKind;
 use mt_base::Memory;
@@ -26,6 +27,7 @@ pub enum Fault {
     Load { which: Which },
     TooLong { which: Which },
     Scl { line: u32, kind: SclKind },
+    Kbm { line: u32, kind: KbmKind },
     ReferenceUnmapped { key: u8 },
     TooManyPeriods { key: u8 },
     Smf { offset: u32, kind: SmfKind },
@@ -43,6 +45,7 @@ pub fn status(fault: &Fault) -> u8
         Fault::NotYet { .. }
         | Fault::TooLong { .. }
         | Fault::Scl { .. }
+        | Fault::Kbm { .. }
         | Fault::ReferenceUnmapped { .. }
         | Fault::TooManyPeriods { .. }
         | Fault::Smf { .. } => 2,
@@ -66,6 +69,17 @@ impl From<SclFault> for Fault {
         match fault {
             SclFault::At { line, kind } => Fault::Scl { line, kind },
             SclFault::Memory => Fault::Memory,
+        }
+    }
+}
+
+impl From<KbmFault> for Fault {
+    ghost from_gives = { λ fault given. given ≡ of_mapping fault };
+
+    fn from(fault: KbmFault) -> Fault {
+        match fault {
+            KbmFault::At { line, kind } => Fault::Kbm { line, kind },
+            KbmFault::Memory => Fault::Memory,
         }
     }
 }

@@ -1,34 +1,85 @@
 ghost use Rattle.std.specs.Prelude.{◌≡◌, IfOk, IfErr, OnOk};
 ghost use Rattle.mtune_files.specs.Outside.{after_load};
 ghost use Rattle.mtune_core.specs.Call.{IsPrepared, CommandCause, after_loads};
-ghost use Rattle.mtune_core.specs.Command.{view_command};
+ghost use Rattle.mtune_core.specs.Command.{Named, view_choice, view_command};
 ghost use Rattle.mtune_core.specs.Contents.{ContentCause};
 ghost use Rattle.mtune_core.specs.Limits.{text_limit, input_limit};
 ghost use Rattle.mtune_core.specs.Made.{MadeFrom};
 ghost use Rattle.mtune_core.specs.Retuned.{InputCause};
-ghost use Rattle.mtune_core.specs.Table.{table_fn, TableFrom, TextCause};
+ghost use Rattle.mtune_core.specs.Table.{IsScaleAt, IsMappingAt, ScaleCause, MapCause, MappingCause, table_fn, TableFrom, TableCause, after_mapping, after_texts};
 
 use crate::loading::{INPUT_LIMIT, TEXT_LIMIT, load};
 use crate::outcome::Fault;
-use crate::reading::read_scale;
+use crate::reading::{read_mapping, read_scale};
 use crate::retuning::{Made, retuned};
-use crate::table::table_at_440;
-use crate::words::Command;
+use crate::table::key_table;
+use crate::words::{Command, MapChoice};
+use kbm_text::Mapping;
 use key_pitch::KeyTable;
 use mtune_files::{Files, Which};
+use scl_text::Scale;
 use std::alloc::Global;
 
-/// The table of the scale at a name.
-fn load_table<F: Files>(alloc: Global, files: &mut F, name: &str) -> Result<KeyTable, Fault>
-    ensures table { IfOk result (λ t. TableFrom (F.outside files.old) name.now (table_fn t)) }
+/// The scale at a name.
+fn load_scale<F: Files>(alloc: Global, files: &mut F, name: &str) -> Result<Scale, Fault>
+    ensures scale { IfOk result (λ s. IsScaleAt (F.outside files.old) name.now s) }
     ensures loaded { OnOk result
         (F.outside files.new ≡ after_load Which.Scale (F.outside files.old)) }
-    ensures cause { IfErr result (λ e. ContentCause Which.Scale name.now text_limit TextCause
+    ensures cause { IfErr result (λ e. ContentCause Which.Scale name.now text_limit ScaleCause
         (F.outside files.old) (F.outside files.new) e) }
 {
     let text = load(alloc, files, Which::Scale, name, TEXT_LIMIT)?;
-    let scale = read_scale(alloc, &text)?;
-    table_at_440(alloc, &scale)
+    read_scale(alloc, &text)
+}
+
+/// The mapping at a name.
+fn load_named<F: Files>(alloc: Global, files: &mut F, name: &str) -> Result<Mapping, Fault>
+    ensures mapping { IfOk result (λ m. IsMappingAt (F.outside files.old) (Named name.now) m) }
+    ensures loaded { OnOk result
+        (F.outside files.new ≡ after_load Which.Map (F.outside files.old)) }
+    ensures cause { IfErr result (λ e. ContentCause Which.Map name.now text_limit MapCause
+        (F.outside files.old) (F.outside files.new) e) }
+{
+    let text = load(alloc, files, Which::Map, name, TEXT_LIMIT)?;
+    read_mapping(alloc, &text)
+}
+
+/// The mapping that is asked for.
+fn load_mapping<F: Files>(
+    alloc: Global,
+    files: &mut F,
+    choice: &MapChoice<'_>,
+) -> Result<Mapping, Fault>
+    ensures mapping { IfOk result
+        (λ m. IsMappingAt (F.outside files.old) (view_choice choice.now) m) }
+    ensures loaded { OnOk result
+        (F.outside files.new ≡ after_mapping (view_choice choice.now) (F.outside files.old)) }
+    ensures cause { IfErr result (λ e. MappingCause (view_choice choice.now)
+        (F.outside files.old) (F.outside files.new) e) }
+{
+    match choice {
+        MapChoice::Named(name) => load_named(alloc, files, name),
+        MapChoice::At440 => Ok(Mapping::a440(alloc)),
+        MapChoice::Standard => Ok(Mapping::standard(alloc)),
+    }
+}
+
+/// The table of the scale and the mapping of a command.
+fn load_table<F: Files>(
+    alloc: Global,
+    command: &Command<'_>,
+    files: &mut F,
+) -> Result<KeyTable, Fault>
+    ensures table { IfOk result (λ t. TableFrom (F.outside files.old)
+        (view_command command.now) (table_fn t)) }
+    ensures loaded { OnOk result (F.outside files.new
+        ≡ after_texts (view_command command.now) (F.outside files.old)) }
+    ensures cause { IfErr result (λ e. TableCause (view_command command.now)
+        (F.outside files.old) (F.outside files.new) e) }
+{
+    let scale = load_scale(alloc, files, command.scale)?;
+    let mapping = load_mapping(alloc, files, &command.mapping)?;
+    key_table(&scale, &mapping)
 }
 
 /// What is made of the input at a name, with a table.
@@ -53,10 +104,11 @@ fn load_input<F: Files>(
 pub fn prepare<F: Files>(alloc: Global, command: &Command<'_>, files: &mut F) -> Result<Made, Fault>
     ensures made { IfOk result (λ made. IsPrepared (F.outside files.old) (view_command command.now)
         made.output.items made.report.items) }
-    ensures loaded { OnOk result (F.outside files.new ≡ after_loads (F.outside files.old)) }
+    ensures loaded { OnOk result (F.outside files.new
+        ≡ after_loads (view_command command.now) (F.outside files.old)) }
     ensures cause { IfErr result (λ e. CommandCause (view_command command.now)
         (F.outside files.old) (F.outside files.new) e) }
 {
-    let table = load_table(alloc, files, command.scale)?;
+    let table = load_table(alloc, command, files)?;
     load_input(alloc, files, command.input, &table)
 }

@@ -92,14 +92,18 @@ pub fn line_of(fault: &Fault) -> Line
         Fault::NotYet { kind } => one("mtune: not yet ", u32::from(*kind)),
         Fault::Load { which } => about("mtune: cannot load ", *which),
         Fault::TooLong { which } => about("mtune: too long ", *which),
-        Fault::Scl { line, kind } => {
-            two(
-                "mtune: scale line ",
-                *line,
-                " kind ",
-                u32::from(kind.number()),
-            )
-        }
+        Fault::Scl { line, kind } => two(
+            "mtune: scale line ",
+            *line,
+            " kind ",
+            u32::from(kind.number()),
+        ),
+        Fault::Kbm { line, kind } => two(
+            "mtune: map line ",
+            *line,
+            " kind ",
+            u32::from(kind.number()),
+        ),
         Fault::ReferenceUnmapped { key } => around(
             "mtune: reference key ",
             u32::from(*key),

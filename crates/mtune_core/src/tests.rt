@@ -1,5 +1,6 @@
 mod dumped;
 mod failing;
+mod mapped;
 mod refused;
 
 use crate::{Fault, Outcome, run};
@@ -78,6 +79,18 @@ fn joined(alloc: Global, parts: &[&[u8]]) -> Result<Vec<u8>, Fail> {
     let mut bytes = Vec::new(alloc);
     for part in parts {
         bytes.extend_from_slice(part)?;
+    }
+    Ok(bytes)
+}
+
+/// So many bytes, all of them blanks.
+fn blanks(alloc: Global, count: u32) -> Result<Vec<u8>, Fail> {
+    let mut bytes = Vec::new(alloc);
+    for _ in 0..count / 256 {
+        bytes.extend_from_slice(&[b' '; 256])?;
+    }
+    for _ in 0..count % 256 {
+        bytes.push(b' ')?;
     }
     Ok(bytes)
 }

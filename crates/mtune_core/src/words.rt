@@ -1,10 +1,22 @@
 ghost use Rattle.std.specs.Prelude.{◌≡◌, option_map};
-ghost use Rattle.mtune_core.specs.Command.{command_of, is_value, behind, value, last, texts, view_command};
+ghost use Rattle.mtune_core.specs.Command.{command_of, is_value, behind, value, mapping_of, last, texts, view_choice, view_command};
 
-/// The names that the words of the command give.
+/// Which mapping is asked for.
+#[derive(Clone, Copy, Debug)]
+pub enum MapChoice<'a> {
+    /// That of the text with this name.
+    Named(&'a str),
+    /// From key 69 at 440 hertz.
+    At440,
+    /// The standard one, from key 60 at 261.6255653 hertz.
+    Standard,
+}
+
+/// What the words of the command ask for.
 #[derive(Clone, Copy, Debug)]
 pub struct Command<'a> {
     pub scale: &'a str,
+    pub mapping: MapChoice<'a>,
     pub out: &'a str,
     pub input: &'a str,
 }
@@ -40,6 +52,22 @@ fn value<'w, 'a>(words: &'w [&'a str]) -> Option<(&'a str, &'w [&'a str])>
     }
 }
 
+/// The mapping that the words begin with, and the words behind it; the standard one where they begin
+/// with none.
+fn mapping<'w, 'a>(words: &'w [&'a str]) -> Option<(MapChoice<'a>, &'w [&'a str])>
+    ensures { option_map (λ x. (view_choice x.0, texts x.1.now)) result
+        ≡ mapping_of (texts words.entry.now) }
+{
+    if let Some(named) = behind("--map", words) {
+        let (name, rest) = value(named)?;
+        return Some((MapChoice::Named(name), rest));
+    }
+    match behind("--a440", words) {
+        Some(rest) => Some((MapChoice::At440, rest)),
+        None => Some((MapChoice::Standard, words)),
+    }
+}
+
 /// The command, where no word is left.
 fn last<'a>(command: Command<'a>, words: &[&str]) -> Option<Command<'a>>
     ensures { option_map view_command result ≡ last (view_command command.entry) (texts words.now) }
@@ -56,11 +84,19 @@ pub fn read_words<'a>(words: &[&'a str]) -> Option<Command<'a>>
 {
     let words = behind("--scale", words)?;
     let (scale, words) = value(words)?;
-    let words = behind("--a440", words)?;
+    let (mapping, words) = mapping(words)?;
     let words = behind("--route", words)?;
     let words = behind("dump", words)?;
     let words = behind("--out", words)?;
     let (out, words) = value(words)?;
     let (input, words) = value(words)?;
-    last(Command { scale, out, input }, words)
+    last(
+        Command {
+            scale,
+            mapping,
+            out,
+            input,
+        },
+        words,
+    )
 }

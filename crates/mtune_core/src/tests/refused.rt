@@ -1,9 +1,8 @@
-use super::{E12, ONE_NOTE, WORDS, check, check_refused, file, files};
+use super::{E12, ONE_NOTE, WORDS, blanks, check, check_refused, file, files};
 use crate::{Fault, run};
 use midi_model::SmfKind;
 use mtune_files::Which;
 use scl_text::SclKind;
-use std::alloc::Global;
 use std::test::Fail;
 
 #[test]
@@ -26,16 +25,25 @@ fn no_words_are_refused(rt: HostRuntime) -> Result<(), Fail> {
 
 #[test]
 fn wrong_words_are_refused(rt: HostRuntime) -> Result<(), Fail> {
-    let cases: [&[&str]; 5] = [
+    let cases: [&[&str]; 7] = [
         // no input
         &WORDS[..7],
         // one word more
         &[
             "--scale", "e12.scl", "--a440", "--route", "dump", "--out", "out.mid", "in.mid", "x",
         ],
-        // no `--a440`
+        // two mappings
         &[
-            "--scale", "e12.scl", "--route", "dump", "--out", "out.mid", "in.mid",
+            "--scale", "e12.scl", "--map", "m.kbm", "--a440", "--route", "dump", "--out",
+            "out.mid", "in.mid",
+        ],
+        // an option in place of a mapping's name
+        &[
+            "--scale", "e12.scl", "--map", "--route", "dump", "--out", "out.mid", "in.mid",
+        ],
+        // a mapping behind the route
+        &[
+            "--scale", "e12.scl", "--route", "dump", "--map", "m.kbm", "--out", "out.mid", "in.mid",
         ],
         // another route
         &[
@@ -71,18 +79,6 @@ fn broken_scales_are_refused(rt: HostRuntime) -> Result<(), Fail> {
         check_refused(&rt, alloc, scale, &ONE_NOTE, &WORDS, fault, 2, line)?;
     }
     Ok(())
-}
-
-/// So many bytes, all of them blanks.
-fn blanks(alloc: Global, count: u32) -> Result<Vec<u8>, Fail> {
-    let mut bytes = Vec::new(alloc);
-    for _ in 0..count / 256 {
-        bytes.extend_from_slice(&[b' '; 256])?;
-    }
-    for _ in 0..count % 256 {
-        bytes.push(b' ')?;
-    }
-    Ok(bytes)
 }
 
 #[test]

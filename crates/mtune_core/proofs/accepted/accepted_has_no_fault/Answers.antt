@@ -5,6 +5,8 @@ pub returns : goal.returns
 returns c = accepted_is_not_refused (record {
   one_scale = λ lines. (c.one_answer.ensures lines).one_value;
   no_scale_fault = λ lines. (c.one_answer.ensures lines).never_both;
+  one_mapping = λ lines. (c.one_answer-2.ensures lines).one_value;
+  no_mapping_fault = λ lines. (c.one_answer-2.ensures lines).never_both;
   one_file = c.file_laws.ensures.one_file;
   no_file_fault = c.file_laws.ensures.never_both;
 })

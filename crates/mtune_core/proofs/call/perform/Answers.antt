@@ -1,24 +1,19 @@
-use Rattle.std.proofs.Common.{◌≡◌, ℕ, List, Some, sym, ap, subst, ◌∙◌, inl, inr}
+use Rattle.std.proofs.Common.{◌≡◌, ℕ, List, Some, sym, ap, subst, ◌∙◌}
 use Rattle.mtune_files.specs.Outside.{Outside, after_store, AfterFailedStore, after_say, AfterFailedSay}
 use Rattle.mtune_core.specs.declared.outcome.Fault.{Fault}
 use Rattle.mtune_core.specs.declared.outcome.Fault.TheVariants.{Usage, Store, Say}
 use Rattle.mtune_core.specs.Call.{IsMade, CommandCause, IsStopped, after_loads}
 use Rattle.mtune_core.specs.Command.{Command, command_of, texts, view_command}
+use Rattle.mtune_core.proofs.OfContent.{is_of_content}
 use Rattle.mtune_core.proofs.Stages.{handed_on}
 use Rattle.mtune_core.proofs.Steps.{made_for, of_err, of_ok, is_stored}
 use Rattle.mtune_core.proofs.call.perform.Goals as goal
 
--- the cause of a command is that of the words
+-- the cause of a command is no fault of the words, of a store or of a say
 stopped : (o now : Outside) (words : List (List ℕ)) (c : Command) (fault : Fault) → command_of words ≡ Some c → CommandCause c o now fault → IsStopped o now words fault
-stopped o now words c (Usage kind) e (inl (inl h)) = absurd h
-stopped o now words c (Usage kind) e (inl (inr h)) = absurd h.0.1
-stopped o now words c (Usage kind) e (inr h) = elim h.2 [ inl x ↦ absurd x | inr x ↦ absurd x.0.1 ]
-stopped o now words c Store e (inl (inl h)) = absurd h
-stopped o now words c Store e (inl (inr h)) = absurd h.0.1
-stopped o now words c Store e (inr h) = elim h.2 [ inl x ↦ absurd x | inr x ↦ absurd x.0.1 ]
-stopped o now words c Say e (inl (inl h)) = absurd h
-stopped o now words c Say e (inl (inr h)) = absurd h.0.1
-stopped o now words c Say e (inr h) = elim h.2 [ inl x ↦ absurd x | inr x ↦ absurd x.0.1 ]
+stopped o now words c (Usage kind) e h = absurd (is_of_content c o now (Usage kind) h)
+stopped o now words c Store e h = absurd (is_of_content c o now Store h)
+stopped o now words c Say e h = absurd (is_of_content c o now Say h)
 stopped o now words c fault e h = (c, e, h)
 
 pub returns-in_err-made-clause-stopped : goal.returns-in_err-made-clause-stopped
@@ -36,7 +31,7 @@ pub returns-then-is_err-2-clause-stopped : goal.returns-then-is_err-2-clause-sto
 returns-then-is_err-2-clause-stopped g c =
     let made : IsMade (g.F.Files.outside c.args.files.now) (texts c.args.words.now) = made_for (g.F.Files.outside c.args.files.now) (texts c.args.words.now) (view_command c.in-Some.command) c.in_ok-made.made.output.items c.in_ok-made.made.report.items
     (sym c.in-Some.ensures) c.in_ok-made.ensures.made in
-    let stored = is_stored (g.F.Files.outside c.args.files.now) (g.F.Files.outside c.prepare.new.files) (g.F.Files.outside c.store.new.self) made.command.out made.output c.deref.result.now
+    let stored = is_stored (g.F.Files.outside c.args.files.now) (g.F.Files.outside c.prepare.new.files) (g.F.Files.outside c.store.new.self) made.command made.command.out made.output c.deref.result.now
     c.in_ok-made.ensures.loaded (of_ok c.store.result c.if-is_err.ensures.value c.store.ensures.stored) c.deref.ensures.value in
     let failed : AfterFailedSay c.deref-2.result.now (g.F.Files.outside c.store.new.self) (g.F.Files.outside c.say.new.self) = of_err c.say.result c.if-is_err-2.ensures.value c.say.ensures.failed in (
       made,
@@ -48,7 +43,7 @@ pub returns-clause-done : goal.returns-clause-done
 returns-clause-done g c =
     let made : IsMade (g.F.Files.outside c.args.files.now) (texts c.args.words.now) = made_for (g.F.Files.outside c.args.files.now) (texts c.args.words.now) (view_command c.in-Some.command) c.in_ok-made.made.output.items c.in_ok-made.made.report.items
     (sym c.in-Some.ensures) c.in_ok-made.ensures.made in
-    let stored = is_stored (g.F.Files.outside c.args.files.now) (g.F.Files.outside c.prepare.new.files) (g.F.Files.outside c.store.new.self) made.command.out made.output c.deref.result.now
+    let stored = is_stored (g.F.Files.outside c.args.files.now) (g.F.Files.outside c.prepare.new.files) (g.F.Files.outside c.store.new.self) made.command made.command.out made.output c.deref.result.now
     c.in_ok-made.ensures.loaded (of_ok c.store.result c.if-is_err.ensures.value c.store.ensures.stored) c.deref.ensures.value in
     let said : g.F.Files.outside c.say.new.self ≡ after_say c.deref-2.result.now (g.F.Files.outside c.store.new.self) = of_ok c.say.result c.if-is_err-2.ensures.value c.say.ensures.said in
-    (made, said ∙ ap (λ o. after_say c.deref-2.result.now o) stored ∙ ap (λ t. after_say t (after_store made.command.out made.output (after_loads (g.F.Files.outside c.args.files.now)))) c.deref-2.ensures.value)
+    (made, said ∙ ap (λ o. after_say c.deref-2.result.now o) stored ∙ ap (λ t. after_say t (after_store made.command.out made.output (after_loads made.command (g.F.Files.outside c.args.files.now)))) c.deref-2.ensures.value)
