@@ -130,7 +130,7 @@ impl ChannelState {
     }
 
     /// The pressure of a key.
-    pub(crate) fn press(&mut self, key: u8, value: u8)
+    pub fn press(&mut self, key: u8, value: u8)
         requires key { key < 128 }
         requires value { value ≤ 127 }
         ensures own { own_of self.new ≡ own_of self.old }
@@ -142,12 +142,31 @@ impl ChannelState {
     }
 
     /// The pressures of these keys are 0. Bit k of the mask stands for key k.
-    pub(crate) fn relax(&mut self, which: u128)
+    pub fn relax(&mut self, which: u128)
         ensures own { own_of self.new ≡ own_of self.old }
         ensures keys { (k : ℕ) → k < 128 → slice_index self.new.keys.items k
             ≡ (if has which k then 0 else slice_index self.old.keys.items k) }
         ensures tuning { self.new.tuning ≡ self.old.tuning }
     {
         self.keys.reset(which);
+    }
+
+    /// The bend of the channel, 0 to 16,383.
+    pub fn set_bend(&mut self, value: u16)
+        requires { value ≤ 16383 }
+        ensures own { own_of self.new ≡ record (own_of self.old) { bend = value } }
+        ensures keys { self.new.keys ≡ self.old.keys }
+        ensures tuning { self.new.tuning ≡ self.old.tuning }
+    {
+        self.bend = value;
+    }
+
+    /// No tuning program is selected.
+    pub fn untune(&mut self)
+        ensures own { own_of self.new ≡ own_of self.old }
+        ensures keys { self.new.keys ≡ self.old.keys }
+        ensures tuning { self.new.tuning ≡ None }
+    {
+        self.tuning = None;
     }
 }

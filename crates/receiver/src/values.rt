@@ -103,7 +103,7 @@ impl ChannelState {
     }
 
     /// The bend sensitivity in semitones, RPN 0.
-    pub(crate) fn bend_range(&mut self, semitones: u8)
+    pub fn bend_range(&mut self, semitones: u8)
         requires { semitones ≤ 127 }
         ensures own { own_of self.new ≡ bend_range semitones (own_of self.old) }
         ensures keys { self.new.keys ≡ self.old.keys }
