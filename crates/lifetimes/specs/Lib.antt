@@ -1,0 +1,14 @@
+pub mod Views
+pub mod Tracks
+pub mod Told
+pub mod Within
+pub mod Lists
+pub mod Resting
+pub mod OnePart
+pub mod Port
+pub mod Stands
+pub mod Steps
+pub mod Due
+pub mod Pressing
+pub mod Entry
+pub mod Causes
