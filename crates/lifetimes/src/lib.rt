@@ -16,8 +16,6 @@ mod port_faults;
 mod rests;
 mod source;
 mod step;
-#[cfg(test)]
-mod tests;
 mod tracks;
 mod wanted;
 
