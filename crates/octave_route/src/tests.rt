@@ -68,86 +68,58 @@ fn but(class: usize, value: u16) -> [u16; 12] {
     values
 }
 
-/// A scale of one note, as many cents apart, the keys that are used and what comes of it. Key 69 is level.
-/// The values are worked out in exact fractions of a cent.
+/// A scale of one note, the keys that are used, and the class with its value where all others are level. Key 69 is
+/// level. The values are worked out in exact fractions of a cent.
+const FITTING: [(&[u8], &[u8], usize, u16); 8] = [
+    (b"one\n1\n100.0\n", &[], 0, 8192),
+    (b"one\n1\n100.0\n", &[0, 64, 127], 0, 8192),
+    (b"one\n1\n100.1\n", &[69], 0, 8192),
+    // one step up, one step down
+    (b"one\n1\n100.0015\n", &[69, 81], 0, 8192),
+    (b"one\n1\n99.9985\n", &[69, 81], 0, 8192),
+    // the least key gives the value
+    (b"one\n1\n100.001\n", &[57, 69], 9, 8191),
+    // the least value and the greatest one
+    (b"one\n1\n200.006\n", &[68], 8, 0),
+    (b"one\n1\n199.993\n", &[70], 10, 16383),
+];
+
+/// The same with the first key that doesn't fit its class.
+const UNFIT: [(&[u8], &[u8], u8); 6] = [
+    (b"one\n1\n100.1\n", &[69, 81], 81),
+    // two steps up, two steps down
+    (b"one\n1\n100.0016\n", &[69, 81], 81),
+    (b"one\n1\n99.9984\n", &[69, 81], 81),
+    // the least key gives the value
+    (b"one\n1\n100.001\n", &[57, 69, 81], 81),
+    (b"one\n1\n100.001\n", &[57, 81], 81),
+    (b"one\n1\n102.0\n", &[69, 81, 127], 81),
+];
+
+/// The same with the first key that is out of octave tuning: a value of -1, one of 16,384, and more.
+const OUT: [(&[u8], &[u8], u8); 6] = [
+    (b"one\n1\n200.007\n", &[68], 68),
+    (b"one\n1\n199.994\n", &[70], 70),
+    (b"one\n1\n200.007\n", &[70, 69, 68], 68),
+    (b"one\n1\n102.0\n", &[69, 127], 127),
+    (b"one\n1\n102.0\n", &[0, 12], 0),
+    (b"one\n1\n102.0\n", &[9], 9),
+];
+
 #[test]
 fn values_of_classes(rt: HostRuntime) -> Result<(), Fail> {
     // 6386.313714 cents
     assert!(rt; told(rt.alloc(), JUST, MIDDLE_C, &[64]) == Some(Ok(but(4, 0x37 * 128 + 0x1f))));
-
-    let level = Ok([8192; 12]);
-    let rows: [(&[u8], &[u8], Result<[u16; 12], OctaveFault>); 20] = [
-        (b"one\n1\n100.0\n", &[], level),
-        (b"one\n1\n100.0\n", &[0, 64, 127], level),
-        (b"one\n1\n100.1\n", &[69], level),
-        (
-            b"one\n1\n100.1\n",
-            &[69, 81],
-            Err(OctaveFault::Unfit { key: 81 }),
-        ),
-        // one step up and two, one step down and two
-        (b"one\n1\n100.0015\n", &[69, 81], level),
-        (
-            b"one\n1\n100.0016\n",
-            &[69, 81],
-            Err(OctaveFault::Unfit { key: 81 }),
-        ),
-        (b"one\n1\n99.9985\n", &[69, 81], level),
-        (
-            b"one\n1\n99.9984\n",
-            &[69, 81],
-            Err(OctaveFault::Unfit { key: 81 }),
-        ),
-        // the least key gives the value
-        (b"one\n1\n100.001\n", &[57, 69], Ok(but(9, 8191))),
-        (
-            b"one\n1\n100.001\n",
-            &[57, 69, 81],
-            Err(OctaveFault::Unfit { key: 81 }),
-        ),
-        (
-            b"one\n1\n100.001\n",
-            &[57, 81],
-            Err(OctaveFault::Unfit { key: 81 }),
-        ),
-        // the least value and -1, the greatest one and 16,384
-        (b"one\n1\n200.006\n", &[68], Ok(but(8, 0))),
-        (
-            b"one\n1\n200.007\n",
-            &[68],
-            Err(OctaveFault::Out { key: 68 }),
-        ),
-        (b"one\n1\n199.993\n", &[70], Ok(but(10, 16383))),
-        (
-            b"one\n1\n199.994\n",
-            &[70],
-            Err(OctaveFault::Out { key: 70 }),
-        ),
-        // the first key that doesn't fit
-        (
-            b"one\n1\n200.007\n",
-            &[70, 69, 68],
-            Err(OctaveFault::Out { key: 68 }),
-        ),
-        (
-            b"one\n1\n102.0\n",
-            &[69, 81, 127],
-            Err(OctaveFault::Unfit { key: 81 }),
-        ),
-        (
-            b"one\n1\n102.0\n",
-            &[69, 127],
-            Err(OctaveFault::Out { key: 127 }),
-        ),
-        (
-            b"one\n1\n102.0\n",
-            &[0, 12],
-            Err(OctaveFault::Out { key: 0 }),
-        ),
-        (b"one\n1\n102.0\n", &[9], Err(OctaveFault::Out { key: 9 })),
-    ];
-    for (scale, keys, wanted) in rows {
-        assert!(rt; told(rt.alloc(), scale, A440, keys) == Some(wanted));
+    for (scale, keys, class, value) in FITTING {
+        assert!(rt; told(rt.alloc(), scale, A440, keys) == Some(Ok(but(class, value))));
+    }
+    for (scale, keys, key) in UNFIT {
+        let unfit = Some(Err(OctaveFault::Unfit { key }));
+        assert!(rt; told(rt.alloc(), scale, A440, keys) == unfit);
+    }
+    for (scale, keys, key) in OUT {
+        let out = Some(Err(OctaveFault::Out { key }));
+        assert!(rt; told(rt.alloc(), scale, A440, keys) == out);
     }
     Ok(())
 }

@@ -1,5 +1,6 @@
-ghost use Rattle.std.specs.Prelude.{◌≡◌, ◌<◌, length, true};
+ghost use Rattle.std.specs.Prelude.{◌≡◌, ◌<◌, ◌≤◌, length, true};
 ghost use Rattle.mt_base.specs.Midi.{view_what, end_of_track};
+ghost use Rattle.mt_base.specs.Valid.{IsValidWhat};
 
 use super::*;
 use mt_base::{Channel, Memory, Msg, What};
@@ -47,52 +48,42 @@ fn drums(alloc: Global) -> Result<Vec<u8>, Memory> {
     one_track(alloc, 480, track)
 }
 
+fn control(number: u8, value: u8) -> What<'static>
+    requires number { number ≤ 127 }
+    requires value { value ≤ 127 }
+    ensures { IsValidWhat (view_what result) }
+{
+    What::Message(Msg::Control {
+        channel: Channel::default(),
+        number,
+        value,
+    })
+}
+
 /// A tuning of one key, and a note of that key.
 fn tuned(alloc: Global) -> Result<Vec<u8>, Memory> {
-    let channel = Channel::default();
+    let tuning = What::Sysex {
+        lead: 0xf0,
+        bytes: &[
+            0x7f, 0x7f, 0x08, 0x02, 0x00, 0x01, 0x45, 0x45, 0x00, 0x00, 0xf7,
+        ],
+    };
+    let on = What::Message(Msg::NoteOn {
+        channel: Channel::default(),
+        key: 69,
+        velocity: 64,
+    });
+    let off = What::Message(Msg::NoteOff {
+        channel: Channel::default(),
+        key: 69,
+        velocity: 64,
+    });
     let mut track = TrackText::new(alloc);
-    track.put(
-        0,
-        &What::Message(Msg::Control {
-            channel,
-            number: 101,
-            value: 0,
-        }),
-    )?;
-    track.put(
-        0,
-        &What::Message(Msg::Control {
-            channel,
-            number: 100,
-            value: 3,
-        }),
-    )?;
-    let tuning = [
-        0x7f, 0x7f, 0x08, 0x02, 0x00, 0x01, 0x45, 0x45, 0x00, 0x00, 0xf7,
-    ];
-    track.put(
-        0,
-        &What::Sysex {
-            lead: 0xf0,
-            bytes: &tuning,
-        },
-    )?;
-    track.put(
-        0,
-        &What::Message(Msg::NoteOn {
-            channel,
-            key: 69,
-            velocity: 64,
-        }),
-    )?;
-    track.put(
-        480,
-        &What::Message(Msg::NoteOff {
-            channel,
-            key: 69,
-            velocity: 64,
-        }),
-    )?;
+    track.put(0, &control(101, 0))?;
+    track.put(0, &control(100, 3))?;
+    track.put(0, &tuning)?;
+    track.put(0, &on)?;
+    track.put(480, &off)?;
     track.put(480, &end())?;
     one_track(alloc, 480, track)
 }
