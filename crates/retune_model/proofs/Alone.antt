@@ -14,7 +14,8 @@ use Rattle.retune_model.proofs.Timeline.{Timeline, last_reset_le}
 use Rattle.retune_model.proofs.Moments.{Timely, timeline}
 use Rattle.retune_model.proofs.SamePairs.{same_pair}
 use Rattle.retune_model.proofs.Lists.{filter_twice}
-use Rattle.retune_model.proofs.Ordered.{Ordered, all_then, before_then, pairs_ordered}
+use Rattle.retune_model.specs.PairOrder.{AreOrdered}
+use Rattle.retune_model.proofs.Ordered.{all_then, before_then, pairs_ordered}
 
 abbrev of_part : ℕ → Pair → Bool
 of_part c p = nat_eq p.part.channel c
@@ -35,10 +36,10 @@ all_filtered {A} P g (x ∷ xs) h = pick (g x) (all_filtered P g xs h.1)
     pick true r = (h.0, r)
     pick false r = r
 
-all_after : (p : Pair) (q : Pair) (qs : List Pair) → is_before p q ≡ true → Ordered (q ∷ qs) → AllByRecursion (λ x. is_before p x ≡ true) (q ∷ qs)
+all_after : (p : Pair) (q : Pair) (qs : List Pair) → is_before p q ≡ true → AreOrdered (q ∷ qs) → AllByRecursion (λ x. is_before p x ≡ true) (q ∷ qs)
 all_after p q qs h o = (h, all_then (λ x. is_before q x ≡ true) (λ x. is_before p x ≡ true) (λ x g. before_then p q x h g) qs o.0)
 
-passes : (c : ℕ) (p : Pair) (ps : List Pair) → Ordered ps → of_part c p ≡ true → filter (of_part c) (with_pair p ps) ≡ with_pair p (filter (of_part c) ps)
+passes : (c : ℕ) (p : Pair) (ps : List Pair) → AreOrdered ps → of_part c p ≡ true → filter (of_part c) (with_pair p ps) ≡ with_pair p (filter (of_part c) ps)
 passes c p [] o h = cond-true (of_part c p) (p ∷ []) [] h
 passes c p (q ∷ qs) o h = pick (is_before p q) (is_same_pair p q) (of_part c q) refl refl refl (passes c p qs o.1 h)
   where

@@ -14,10 +14,10 @@ came k n ns h = rw h refl
 not_yet : (k : ℕ) (n : Numbered) (ns : List Numbered) → nat_le n.position k ≡ false → events_to k (n ∷ ns) ≡ events_to k ns
 not_yet k n ns h = rw h refl
 
-now : (k : ℕ) (n : Numbered) (ns : List Numbered) → nat_eq n.position k ≡ true → event_at (n ∷ ns) k ≡ n.event ∷ event_at ns k
+pub now : (k : ℕ) (n : Numbered) (ns : List Numbered) → nat_eq n.position k ≡ true → event_at (n ∷ ns) k ≡ n.event ∷ event_at ns k
 now k n ns h = rw h refl
 
-not_now : (k : ℕ) (n : Numbered) (ns : List Numbered) → nat_eq n.position k ≡ false → event_at (n ∷ ns) k ≡ event_at ns k
+pub not_now : (k : ℕ) (n : Numbered) (ns : List Numbered) → nat_eq n.position k ≡ false → event_at (n ∷ ns) k ≡ event_at ns k
 not_now k n ns h = rw h refl
 
 pub none_yet : (a k : ℕ) (ns : List Numbered) → Ascend a ns → k ≤ a → events_to k ns ≡ []

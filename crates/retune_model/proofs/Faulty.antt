@@ -19,7 +19,8 @@ use Rattle.retune_model.specs.Ports.{Numbered, PortEvents, port_at, music_at, po
 use Rattle.retune_model.specs.Rests.{pairs_at, is_aimed}
 use Rattle.retune_model.specs.SourceFaults.{Fault, first_beyond, message_tests, kind_in, kind_behind, breaks_ports, bend_of, placed_at, fault_behind, fault_of, fault_at, IsFaultless, or_else, first_from, IsLeastBeyond, IsFine, AreFine, BreakNoPorts}
 use Rattle.retune_model.proofs.SamePairs.{same_part, part_itself, same_pair}
-use Rattle.retune_model.proofs.Ordered.{Ordered, Has, itself, before_cases}
+use Rattle.retune_model.specs.PairOrder.{AreOrdered}
+use Rattle.retune_model.proofs.Ordered.{Has, itself, before_cases}
 
 -- ---- the first of some faults
 pub none_first : (fault : ℕ → Option Fault) (k n : ℕ) → first_from fault k n ≡ None → (j : ℕ) → k ≤ j → j < k + n → fault j ≡ None
@@ -203,7 +204,7 @@ member_all P (q ∷ qs) p h m = elim (or_cases (is_same_pair p q) (is_member is_
 abbrev made : Part → ℤ → Pair
 made part steps = record { part = part; steps = steps }
 
-pub least_beyond : (part : Part) (r : ℤ) (ps : List Pair) → Ordered ps → (q s : ℤ) → first_beyond part r ps ≡ Some (q, s) → (s ≡ r) × IsLeastBeyond part r ps q
+pub least_beyond : (part : Part) (r : ℤ) (ps : List Pair) → AreOrdered ps → (q s : ℤ) → first_beyond part r ps ≡ Some (q, s) → (s ≡ r) × IsLeastBeyond part r ps q
 least_beyond part r [] o q s h = absurd cc
 least_beyond part r (p ∷ ps) o q s h = pick (is_same_part p.part part) (is_within_bend (p.steps +ℤ r)) refl refl h (least_beyond part r ps o.1 q s)
   where

@@ -16,6 +16,8 @@ pub mod Events
 pub mod Numbering
 pub mod Moments
 pub mod Ordered
+pub mod SameOrder
+pub mod Longer
 pub mod Resting
 pub mod Written
 pub mod Latest

@@ -10,7 +10,9 @@ use Rattle.midi_model.specs.Notes.{Note}
 use Rattle.retune_model.specs.Table.{BendTarget}
 use Rattle.retune_model.specs.Options.{Options}
 use Rattle.retune_model.specs.Faults.{Targets, int_eq, target_of}
-use Rattle.retune_model.specs.Rests.{nobody, steps_of, pair_of}
+use Rattle.retune_model.specs.Ports.{PortEvents}
+use Rattle.retune_model.specs.Rests.{nobody, steps_of, pair_of, lasts, holding, held_at}
+use Rattle.retune_model.specs.PairOrder.{AreOrdered}
 use Rattle.retune_model.proofs.SamePairs.{same_part, part_itself, same_pair, pair_itself}
 use Rattle.retune_model.proofs.Moments.{HasTarget}
 
@@ -111,7 +113,7 @@ before_other p q h k =
       | inr e ↦ before_by_part q p (part_other p.part q.part a.0 e)
     ]
 
-before_apart : (p q : Pair) → is_before p q ≡ true → is_same_pair p q ≡ false
+pub before_apart : (p q : Pair) → is_before p q ≡ true → is_same_pair p q ≡ false
 before_apart p q h = elim (before_cases p q h) [
   | inl l ↦ and_left (is_same_part p.part q.part) (int_eq p.steps q.steps) (part_apart p.part q.part l)
   | inr e ↦ and_right (is_same_part p.part q.part) (int_eq p.steps q.steps) (int_apart p.steps q.steps e.1)
@@ -122,10 +124,6 @@ pub all_then : (P Q : Pair → Type 0) → ((p : Pair) → P p → Q p) → (ps 
 all_then P Q f [] h = tt
 all_then P Q f (p ∷ ps) h = (f p h.0, all_then P Q f ps h.1)
 
-abbrev pub Ordered : List Pair → Type 0
-Ordered [] = Unit {0}
-Ordered (p ∷ ps) = AllByRecursion (λ q. is_before p q ≡ true) ps × Ordered ps
-
 with_all : (P : Pair → Type 0) (p : Pair) → P p → (ps : List Pair) → AllByRecursion P ps → AllByRecursion P (with_pair p ps)
 with_all P p x [] h = (x, tt)
 with_all P p x (q ∷ qs) h = pick (is_before p q) (is_same_pair p q) (with_all P p x qs h.1)
@@ -135,24 +133,28 @@ with_all P p x (q ∷ qs) h = pick (is_before p q) (is_same_pair p q) (with_all 
     pick false true r = h
     pick false false r = (h.0, r)
 
-with_ordered : (p : Pair) (ps : List Pair) → Ordered ps → Ordered (with_pair p ps)
+pub with_ordered : (p : Pair) (ps : List Pair) → AreOrdered ps → AreOrdered (with_pair p ps)
 with_ordered p [] h = (tt, tt)
 with_ordered p (q ∷ qs) h = pick (is_before p q) (is_same_pair p q) refl refl (with_ordered p qs h.1)
   where
-    pick : (a b : Bool) → is_before p q ≡ a → is_same_pair p q ≡ b → Ordered (with_pair p qs) → Ordered (cond a (p ∷ q ∷ qs) (cond b (q ∷ qs) (q ∷ with_pair p qs)))
+    pick : (a b : Bool) → is_before p q ≡ a → is_same_pair p q ≡ b → AreOrdered (with_pair p qs) → AreOrdered (cond a (p ∷ q ∷ qs) (cond b (q ∷ qs) (q ∷ with_pair p qs)))
     pick true b e f r = ((e, all_then (λ x. is_before q x ≡ true) (λ x. is_before p x ≡ true) (λ x g. before_then p q x e g) qs h.0), h)
     pick false true e f r = h
     pick false false e f r = (with_all (λ x. is_before q x ≡ true) p (before_other p q e f) qs h.0, r)
 
-pub pairs_ordered : (z : ℕ) (o : Options) (table : Targets) (ns : List Note) → Ordered (pairs_of z o table ns)
+pub pairs_ordered : (z : ℕ) (o : Options) (table : Targets) (ns : List Note) → AreOrdered (pairs_of z o table ns)
 pairs_ordered z o table [] = tt
 pairs_ordered z o table (n ∷ ns) = pick (target_of o table n) (pairs_ordered z o table ns)
   where
-    pick : (t : Option BendTarget) → Ordered (pairs_of z o table ns) → Ordered (pair_if z n.channel t (pairs_of z o table ns))
+    pick : (t : Option BendTarget) → AreOrdered (pairs_of z o table ns) → AreOrdered (pair_if z n.channel t (pairs_of z o table ns))
     pick (Some t) h = with_ordered (record { part = record { port = z; channel = n.channel }; steps = t.steps }) (pairs_of z o table ns) h
     pick None h = h
 
-pub ordered_distinct : (ps : List Pair) → Ordered ps → IsDistinct is_same_pair ps
+pub held_ordered : (o : Options) (part : ℕ → Bool) (table : Targets) (port : PortEvents) (k : ℕ) → AreOrdered (held_at o part table port k)
+held_ordered o part table port zero = tt
+held_ordered o part table port (suc k) = pairs_ordered port.number o table (filter (lasts o.tail (port.tick (suc k))) (holding part o.tail port k))
+
+pub ordered_distinct : (ps : List Pair) → AreOrdered ps → IsDistinct is_same_pair ps
 unfolding IsDistinct
 ordered_distinct [] h = tt
 ordered_distinct (p ∷ ps) h = (all_then (λ q. is_before p q ≡ true) (λ q. is_same_pair p q ≡ false) (λ q l. before_apart p q l) ps h.0, ordered_distinct ps h.1)
@@ -167,7 +169,7 @@ itself p = pair_itself p p refl
 abbrev made : ℕ → ℕ → ℤ → Pair
 made z c steps = record { part = record { port = z; channel = c }; steps = steps }
 
-with_has : (p : Pair) (ps : List Pair) → Has (with_pair p ps) p
+pub with_has : (p : Pair) (ps : List Pair) → Has (with_pair p ps) p
 with_has p [] = or_left (is_same_pair p p) false (itself p)
 with_has p (q ∷ qs) = pick (is_before p q) (is_same_pair p q) refl (with_has p qs)
   where
@@ -176,7 +178,7 @@ with_has p (q ∷ qs) = pick (is_before p q) (is_same_pair p q) refl (with_has p
     pick false true e r = or_left (is_same_pair p q) (is_member is_same_pair qs p) e
     pick false false e r = or_right (is_same_pair p q) (is_member is_same_pair (with_pair p qs) p) r
 
-with_keeps : (p : Pair) (ps : List Pair) (x : Pair) → Has ps x → Has (with_pair p ps) x
+pub with_keeps : (p : Pair) (ps : List Pair) (x : Pair) → Has ps x → Has (with_pair p ps) x
 with_keeps p [] x h = absurd cc
 with_keeps p (q ∷ qs) x h = pick (is_before p q) (is_same_pair p q) (or_cases (is_same_pair x q) (is_member is_same_pair qs x) h) (with_keeps p qs x)
   where
@@ -186,7 +188,7 @@ with_keeps p (q ∷ qs) x h = pick (is_before p q) (is_same_pair p q) (or_cases 
     pick false false (inl e) later = or_left (is_same_pair x q) (is_member is_same_pair (with_pair p qs) x) e
     pick false false (inr e) later = or_right (is_same_pair x q) (is_member is_same_pair (with_pair p qs) x) (later e)
 
-with_back : (p : Pair) (ps : List Pair) (x : Pair) → Has (with_pair p ps) x → (p ≡ x) ⊎ Has ps x
+pub with_back : (p : Pair) (ps : List Pair) (x : Pair) → Has (with_pair p ps) x → (p ≡ x) ⊎ Has ps x
 with_back p [] x h = elim (or_cases (is_same_pair x p) false h) [ inl e ↦ inl (sym (same_pair x p e)) | inr e ↦ absurd cc ]
 with_back p (q ∷ qs) x h = pick (is_before p q) (is_same_pair p q) h (with_back p qs x)
   where

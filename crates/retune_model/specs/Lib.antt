@@ -9,6 +9,7 @@ pub mod Drums
 pub mod Faults
 pub mod Pairs
 pub mod Rests
+pub mod PairOrder
 pub mod LastEnds
 pub mod Need
 pub mod Runs
@@ -19,6 +20,7 @@ pub mod RestLaws
 pub mod SourceFaults
 pub mod FaultLaws
 pub mod NeedLaws
+pub mod FrontLaws
 pub mod Blocks
 pub mod Routes
 pub mod Plain

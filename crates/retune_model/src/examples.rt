@@ -140,10 +140,10 @@ pub fn rest_examples()
     ensures held_there { held (resting 1) equal_table (one_after_other 480) 0 3
         ≡ pair 0 0 (pos 0) ∷ [] }
     ensures not_held { held (resting 1) equal_table (one_after_other 481) 0 3 ≡ [] }
-    ensures run_goes_on { since is_same_pair (pairs (resting 20) equal_table (struck_again_at 500) 0) (pair 0 0 (pos 0)) 4
-        ≡ 1 }
-    ensures run_begins { since is_same_pair (pairs (resting 10) equal_table (struck_again_at 500) 0) (pair 0 0 (pos 0)) 4
-        ≡ 4 }
+    ensures run_goes_on { since is_same_pair (pairs (resting 20) equal_table (struck_again_at 500) 0)
+        (pair 0 0 (pos 0)) 4 ≡ 1 }
+    ensures run_begins { since is_same_pair (pairs (resting 10) equal_table (struck_again_at 500) 0)
+        (pair 0 0 (pos 0)) 4 ≡ 4 }
 {}
 
 /// A bend that goes too far for a pair that rests is a fault, and none once the rest has run out.

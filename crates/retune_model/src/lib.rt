@@ -6,6 +6,8 @@ mod comparing;
 mod dump;
 mod examples;
 mod faults;
+mod front;
+mod order;
 mod ports;
 mod rests;
 mod routes;
@@ -21,6 +23,8 @@ pub use examples::{
 pub use faults::{
     beyond_laws, drums_stand_apart, fault_laws, sound_sources, zone_entries_set_zones,
 };
+pub use front::{front_faults, front_laws, next_laws};
+pub use order::{order_laws, pairs_in_order};
 pub use ports::{port_laws, position_laws};
 pub use rests::{
     elsewhere, held_laws, last_ends, part_alone, rests_are_runs, rests_as_written, without_rests,
