@@ -31,7 +31,8 @@ of_port_append z ports a (x ∷ es) fs =
         (of_port_append z (ports_after ports x) (suc a) es fs ∙ ap (λ k. of_port_from z (ports_after ports x) (suc a) es ++ back k) n)
     ∙ with_append (nat_eq (port_of ports x) z) (record { position = suc a; event = x }) _ _
 
-pub events_front : (front back : List MidiEvent) (z : ℕ) → of_port z (front ++ back) ≡ of_port z front ++ of_port_from z (ports_from all_zero front) (length front) back
+pub events_front : (front back : List MidiEvent) (z : ℕ) → of_port z (front ++ back)
+    ≡ of_port z front ++ of_port_from z (ports_from all_zero front) (length front) back
 events_front front back z =
     let n : 0 + length front ≡ length front = omega arith in
     of_port_append z all_zero 0 front back ∙ ap (λ k. of_port z front ++ of_port_from z (ports_from all_zero front) k back) n
@@ -39,7 +40,8 @@ events_front front back z =
 pub event_front_from : (z : ℕ) (ports : ℕ → ℕ) (a k : ℕ) (es fs : List MidiEvent) → k ≤ a + length es
     → event_at (of_port_from z ports a (es ++ fs)) k ≡ event_at (of_port_from z ports a es) k
 event_front_from z ports a k [] fs le = none_at a k (of_port_from z ports a fs) (ascend_from z ports a fs) (omega (arith, le))
-event_front_from z ports a k (x ∷ es) fs le = pick (nat_eq (port_of ports x) z) (event_front_from z (ports_after ports x) (suc a) k es fs (omega (arith, le)))
+event_front_from z ports a k (x ∷ es) fs le =
+  pick (nat_eq (port_of ports x) z) (event_front_from z (ports_after ports x) (suc a) k es fs (omega (arith, le)))
   where
     n : Numbered
     n = record { position = suc a; event = x }
@@ -50,7 +52,8 @@ event_front_from z ports a k (x ∷ es) fs le = pick (nat_eq (port_of ports x) z
     short : List Numbered
     short = of_port_from z (ports_after ports x) (suc a) es
 
-    pick : (b : Bool) → event_at (of_port_from z (ports_after ports x) (suc a) (es ++ fs)) k ≡ event_at (of_port_from z (ports_after ports x) (suc a) es) k
+    pick : (b : Bool) → event_at (of_port_from z (ports_after ports x) (suc a) (es ++ fs)) k
+        ≡ event_at (of_port_from z (ports_after ports x) (suc a) es) k
         → event_at (with_event b (record { position = suc a; event = x }) (of_port_from z (ports_after ports x) (suc a) (es ++ fs))) k
         ≡ event_at (with_event b (record { position = suc a; event = x }) (of_port_from z (ports_after ports x) (suc a) es)) k
     pick false h = h
@@ -62,13 +65,16 @@ event_front_from z ports a k (x ∷ es) fs le = pick (nat_eq (port_of ports x) z
 pub event_front : (front back : List MidiEvent) (z k : ℕ) → k ≤ length front → event_at (of_port z (front ++ back)) k ≡ event_at (of_port z front) k
 event_front front back z k le = event_front_from z all_zero 0 k front back (omega (arith, le))
 
-pub reset_front : (front back : List MidiEvent) (z k : ℕ) → k ≤ length front → is_reset_at (of_port z (front ++ back)) k ≡ is_reset_at (of_port z front) k
-reset_front front back z k le = reset_at k (of_port z (front ++ back)) ∙ (ap any_resets (event_front front back z k le) ∙ sym (reset_at k (of_port z front)))
+pub reset_front : (front back : List MidiEvent) (z k : ℕ) → k ≤ length front
+    → is_reset_at (of_port z (front ++ back)) k ≡ is_reset_at (of_port z front) k
+reset_front front back z k le = reset_at k (of_port z (front ++ back)) ∙ (ap any_resets (event_front front back z k le)
+    ∙ sym (reset_at k (of_port z front)))
 
 pub music_front : (front back : List MidiEvent) (z k : ℕ) → k ≤ length front → music_at (of_port z (front ++ back)) k ≡ music_at (of_port z front) k
 music_front front back z k le =
     ap (play quiet) (among_first z all_zero 0 k k (front ++ back) (omega arith)
-    ∙ (ap (λ es. unnumbered (of_port_from z all_zero 0 es)) (take-append-le k front back le) ∙ sym (among_first z all_zero 0 k k front (omega arith))))
+    ∙ (ap (λ es. unnumbered (of_port_from z all_zero 0 es)) (take-append-le k front back le)
+        ∙ sym (among_first z all_zero 0 k k front (omega arith))))
 
 -- the events of a port with the next of the file
 map_append : (xs ys : List Numbered) → unnumbered (xs ++ ys) ≡ unnumbered xs ++ unnumbered ys
@@ -76,14 +82,16 @@ map_append [] ys = refl
 map_append (x ∷ xs) ys = ap (λ es. x.event ∷ es) (map_append xs ys)
 
 pub events_next : (front : List MidiEvent) (e : MidiEvent) (z : ℕ)
-    → unnumbered (of_port z (front ++ e ∷ [])) ≡ cond (nat_eq (port_of (ports_from all_zero front) e) z) (unnumbered (of_port z front) ++ e ∷ []) (unnumbered (of_port z front))
+    → unnumbered (of_port z (front ++ e ∷ []))
+    ≡ cond (nat_eq (port_of (ports_from all_zero front) e) z) (unnumbered (of_port z front) ++ e ∷ []) (unnumbered (of_port z front))
 events_next front e z = ap unnumbered (events_front front (e ∷ []) z) ∙ pick (nat_eq (port_of (ports_from all_zero front) e) z)
   where
     none_behind : (xs : List Numbered) → unnumbered (xs ++ []) ≡ unnumbered xs
     none_behind [] = refl
     none_behind (x ∷ xs) = ap (λ es. x.event ∷ es) (none_behind xs)
 
-    pick : (b : Bool) → unnumbered (of_port z front ++ with_event b (record { position = suc (length front); event = e }) []) ≡ cond b (unnumbered (of_port z front) ++ e ∷ []) (unnumbered (of_port z front))
+    pick : (b : Bool) → unnumbered (of_port z front ++ with_event b (record { position = suc (length front); event = e }) [])
+        ≡ cond b (unnumbered (of_port z front) ++ e ∷ []) (unnumbered (of_port z front))
     pick true = map_append (of_port z front) (record { position = suc (length front); event = e } ∷ [])
     pick false = none_behind (of_port z front)
 
@@ -122,10 +130,12 @@ last_reset_le f (suc k) = pick (f (suc k)) (last_reset_le f k)
     pick true h = omega arith
     pick false h = omega (arith, h)
 
-pub notes_front : (part : ℕ → Bool) (front back : List MidiEvent) (z k : ℕ) → k ≤ length front → notes_at part (of_port z (front ++ back)) k ≡ notes_at part (of_port z front) k
+pub notes_front : (part : ℕ → Bool) (front back : List MidiEvent) (z k : ℕ) → k ≤ length front
+    → notes_at part (of_port z (front ++ back)) k ≡ notes_at part (of_port z front) k
 notes_front part front back z k le = ap (λ m. filter (λ (n : Note). part n.channel) m.notes) (music_front front back z k le)
 
-pub past_front : (part : ℕ → Bool) (front back : List MidiEvent) (z k : ℕ) → k ≤ length front → past_at part (of_port z (front ++ back)) k ≡ past_at part (of_port z front) k
+pub past_front : (part : ℕ → Bool) (front back : List MidiEvent) (z k : ℕ) → k ≤ length front
+    → past_at part (of_port z (front ++ back)) k ≡ past_at part (of_port z front) k
 past_front part front back z k le =
     let f : ℕ → Bool = is_reset_at (of_port z (front ++ back)) in
     let g : ℕ → Bool = is_reset_at (of_port z front) in
@@ -178,7 +188,8 @@ record Behind {A : Type 0} (k : ℕ) (es fs : List A) : Type 0 where
 behind : {A : Type 0} (k : ℕ) (es fs : List A) → k < length es → Behind k es fs
 behind k [] fs lt = absurd (omega (arith, lt))
 behind zero (x ∷ es) fs lt = record { here = x; later = es; before = refl; now = refl }
-behind (suc k) (x ∷ es) fs lt = (let b = behind k es fs (omega (arith, lt)) in record { here = b.here; later = b.later; before = b.before; now = b.now })
+behind (suc k) (x ∷ es) fs lt =
+    (let b = behind k es fs (omega (arith, lt)) in record { here = b.here; later = b.later; before = b.before; now = b.now })
 
 -- a fault by what it is judged by: the events before, the music before and after, and the pairs
 abbrev judged : Options → Targets → ℕ → ℕ → MidiEvent → List MidiEvent → Music → Music → List Pair → Option Fault
@@ -190,12 +201,15 @@ behind_front : (o : Options) (table : Targets) (z k : ℕ) (es fs : List MidiEve
 behind_front o table z k es fs x lt =
     let f : List MidiEvent → Music → Music → List Pair → Option Fault = judged o table z k x in
     let new : PortEvents = port_at (es ++ fs) z in
-    ap (λ ts. f ts (music_at new.events k) (music_at new.events (suc k)) (pairs_at o (is_part o) table new (suc k))) (take-append-le k es fs (omega (arith, lt)))
-    ∙ (ap (λ m. f (take k es) m (music_at new.events (suc k)) (pairs_at o (is_part o) table new (suc k))) (music_front es fs z k (omega (arith, lt)))
-    ∙ (ap (λ m. f (take k es) (music_at (of_port z es) k) m (pairs_at o (is_part o) table new (suc k))) (music_front es fs z (suc k) (omega (arith, lt)))
-    ∙ ap (f (take k es) (music_at (of_port z es) k) (music_at (of_port z es) (suc k))) (pairs_front o (is_part o) table es fs z (suc k) (omega (arith, lt)))))
+    let before : Music = music_at (of_port z es) k in
+    let pairs : List Pair = pairs_at o (is_part o) table new (suc k) in
+    ap (λ ts. f ts (music_at new.events k) (music_at new.events (suc k)) pairs) (take-append-le k es fs (omega (arith, lt)))
+    ∙ (ap (λ m. f (take k es) m (music_at new.events (suc k)) pairs) (music_front es fs z k (omega (arith, lt)))
+    ∙ (ap (λ m. f (take k es) before m pairs) (music_front es fs z (suc k) (omega (arith, lt)))
+    ∙ ap (f (take k es) before (music_at (of_port z es) (suc k))) (pairs_front o (is_part o) table es fs z (suc k) (omega (arith, lt)))))
 
-pub fault_front : (o : Options) (table : Targets) (front back : List MidiEvent) (k : ℕ) → k < length front → fault_at o table (front ++ back) k ≡ fault_at o table front k
+pub fault_front : (o : Options) (table : Targets) (front back : List MidiEvent) (k : ℕ) → k < length front
+    → fault_at o table (front ++ back) k ≡ fault_at o table front k
 fault_front o table front back k lt =
     let b = behind k front back lt in
     let port : List MidiEvent → ℕ = λ before. port_of (ports_from all_zero before) b.here in
@@ -204,7 +218,8 @@ fault_front o table front back k lt =
     ∙ (behind_front o table (port (take k front)) k front back b.here lt ∙ sym (ap (fault_of o table front k) b.before)))
 
 pub faultless_front : (o : Options) (table : Targets) (front back : List MidiEvent) → IsFaultless o table (front ++ back) → IsFaultless o table front
-faultless_front o table front back all k lt = (let n = length-append front back in sym (fault_front o table front back k lt) ∙ all k (omega (arith, lt, n)))
+faultless_front o table front back all k lt = (let n = length-append front back in sym (fault_front o table front back k lt)
+    ∙ all k (omega (arith, lt, n)))
 
 pub faultless_next : (o : Options) (table : Targets) (front : List MidiEvent) (e : MidiEvent) → IsFaultless o table front
     → fault_at o table (front ++ e ∷ []) (length front) ≡ None → IsFaultless o table (front ++ e ∷ [])
@@ -215,7 +230,8 @@ faultless_next o table front e all last k lt = elim (cases_lt k (length front)) 
       ap (fault_at o table (front ++ e ∷ [])) same ∙ last)
 ]
 
-pub is_first_front : (o : Options) (table : Targets) (front back : List MidiEvent) (k : ℕ) (f : Fault) → IsFirst o table front k f → IsFirst o table (front ++ back) k f
+pub is_first_front : (o : Options) (table : Targets) (front back : List MidiEvent) (k : ℕ) (f : Fault) → IsFirst o table front k f
+    → IsFirst o table (front ++ back) k f
 is_first_front o table front back k f h =
     let n = length-append front back in
     let low : k < length front = h.there in
@@ -225,10 +241,12 @@ is_first_front o table front back k f h =
       none_before = λ j l. fault_front o table front back j (omega (arith, l, low)) ∙ h.none_before j l;
     }
 
-pub next_is_first : (o : Options) (table : Targets) (front : List MidiEvent) (e : MidiEvent) (back : List MidiEvent) (f : Fault) → IsFaultless o table front
+pub next_is_first : (o : Options) (table : Targets) (front : List MidiEvent) (e : MidiEvent) (back : List MidiEvent) (f : Fault)
+    → IsFaultless o table front
     → fault_at o table (front ++ e ∷ []) (length front) ≡ Some f → IsFirst o table (front ++ e ∷ back) (length front) f
 next_is_first o table front e back f all here =
     let n = length-append front (e ∷ []) in
     let first : IsFirst o table (front ++ e ∷ []) (length front) f =
         record { there = omega (arith, n); here = here; none_before = λ j l. fault_front o table front (e ∷ []) j l ∙ all j l } in
-    subst (λ es. IsFirst o table es (length front) f) (append_assoc front (e ∷ []) back) (is_first_front o table (front ++ e ∷ []) back (length front) f first)
+    subst (λ es. IsFirst o table es (length front) f) (append_assoc front (e ∷ []) back)
+        (is_first_front o table (front ++ e ∷ []) back (length front) f first)

@@ -30,12 +30,17 @@ same_first p q ps qs a b h k = elim (or_cases (is_same_pair p q) (is_member is_s
   | inl e ↦ same_pair p q e
   | inr e ↦ elim (or_cases (is_same_pair q p) (is_member is_same_pair ps q) k) [
     | inl f ↦ sym (same_pair q p f)
-    | inr f ↦ absurd (not_before p p refl (before_then p q p (member (λ x. is_before p x ≡ true) ps q a.0 f) (member (λ x. is_before q x ≡ true) qs p b.0 e)))
+    | inr f ↦
+        let first : is_before p q ≡ true = member (λ x. is_before p x ≡ true) ps q a.0 f in
+        let second : is_before q p ≡ true = member (λ x. is_before q x ≡ true) qs p b.0 e in
+        absurd (not_before p p refl (before_then p q p first second))
   ]
 ]
 
 same_rest : (p q : Pair) (ps qs : List Pair) → p ≡ q → AreOrdered (p ∷ ps) → HasEachOf (q ∷ qs) (p ∷ ps) → HasEachOf qs ps
-same_rest p q ps qs same a f x h = elim (or_cases (is_same_pair x q) (is_member is_same_pair qs x) (f x (or_right (is_same_pair x p) (is_member is_same_pair ps x) h))) [
+same_rest p q ps qs same a f x h =
+  let there : Has (q ∷ qs) x = f x (or_right (is_same_pair x p) (is_member is_same_pair ps x) h) in
+  elim (or_cases (is_same_pair x q) (is_member is_same_pair qs x) there) [
   | inl e ↦ absurd (not_before p x (same ∙ sym (same_pair x q e)) (member (λ y. is_before p y ≡ true) ps x a.0 h))
   | inr e ↦ e
 ]
@@ -96,5 +101,7 @@ has_pass test q (p ∷ ps) = pick (test p) (is_same_pair q p) refl refl (has_pas
         → is_member is_same_pair (cond b (p ∷ filter test ps) (filter test ps)) q ≡ ((s || is_member is_same_pair ps q) && test q)
     pick true true b s r = ap (λ x. x || is_member is_same_pair (filter test ps) q) s ∙ sym (ap test (same_pair q p s) ∙ b)
     pick true false b s r = ap (λ x. x || is_member is_same_pair (filter test ps) q) s ∙ r
-    pick false true b s r = let out : test q ≡ false = ap test (same_pair q p s) ∙ b in r ∙ (ap (λ x. is_member is_same_pair ps q && x) out ∙ (never (is_member is_same_pair ps q) ∙ sym out))
+    pick false true b s r =
+        let out : test q ≡ false = ap test (same_pair q p s) ∙ b in
+        r ∙ (ap (λ x. is_member is_same_pair ps q && x) out ∙ (never (is_member is_same_pair ps q) ∙ sym out))
     pick false false b s r = r

@@ -15,7 +15,8 @@ TickIsKept = (front back : List MidiEvent) (k : ℕ) → k ≤ length front → 
 
 -- the events of a port are those in the front, and then those behind it
 abbrev pub EventsAreKept : Type 0
-EventsAreKept = (front back : List MidiEvent) (z : ℕ) → of_port z (front ++ back) ≡ of_port z front ++ of_port_from z (ports_from all_zero front) (length front) back
+EventsAreKept = (front back : List MidiEvent) (z : ℕ) → of_port z (front ++ back)
+    ≡ of_port z front ++ of_port_from z (ports_from all_zero front) (length front) back
 
 abbrev pub EventIsKept : Type 0
 EventIsKept = (front back : List MidiEvent) (z k : ℕ) → k ≤ length front → event_at (of_port z (front ++ back)) k ≡ event_at (of_port z front) k
@@ -72,7 +73,8 @@ NeedWithNext = (o : Options) (part : ℕ → Bool) (table : Targets) (front : Li
 -- ---- faults
 
 abbrev pub FaultIsKept : Type 0
-FaultIsKept = (o : Options) (table : Targets) (front back : List MidiEvent) (k : ℕ) → k < length front → fault_at o table (front ++ back) k ≡ fault_at o table front k
+FaultIsKept = (o : Options) (table : Targets) (front back : List MidiEvent) (k : ℕ) → k < length front
+    → fault_at o table (front ++ back) k ≡ fault_at o table front k
 
 abbrev pub FrontIsFaultless : Type 0
 FrontIsFaultless = (o : Options) (table : Targets) (front back : List MidiEvent) → IsFaultless o table (front ++ back) → IsFaultless o table front
@@ -82,8 +84,10 @@ NextIsFaultless = (o : Options) (table : Targets) (front : List MidiEvent) (e : 
     fault_at o table (front ++ e ∷ []) (length front) ≡ None → IsFaultless o table (front ++ e ∷ [])
 
 abbrev pub FirstIsKept : Type 0
-FirstIsKept = (o : Options) (table : Targets) (front back : List MidiEvent) (f : Fault) → first_fault o table front ≡ Some f → first_fault o table (front ++ back) ≡ Some f
+FirstIsKept = (o : Options) (table : Targets) (front back : List MidiEvent) (f : Fault) → first_fault o table front ≡ Some f
+    → first_fault o table (front ++ back) ≡ Some f
 
 abbrev pub NextIsFirst : Type 0
-NextIsFirst = (o : Options) (table : Targets) (front : List MidiEvent) (e : MidiEvent) (back : List MidiEvent) (f : Fault) → IsFaultless o table front →
+NextIsFirst = (o : Options) (table : Targets) (front : List MidiEvent) (e : MidiEvent) (back : List MidiEvent) (f : Fault)
+    → IsFaultless o table front →
     fault_at o table (front ++ e ∷ []) (length front) ≡ Some f → first_fault o table (front ++ e ∷ back) ≡ Some f
