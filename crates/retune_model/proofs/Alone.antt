@@ -1,5 +1,5 @@
--- The pairs of one part alone are those of its notes alone.
-use Rattle.std.proofs.Common.{◌≡◌, ◌≤◌, ℕ, zero, suc, List, [], ◌∷◌, Bool, true, false, cond, ◌&&◌, Option, Some, None, refl, ap, sym, ◌∙◌, subst, length, drop, arith, inl, inr, nat_eq}
+-- The pairs of some parts alone are those of their notes alone; c says of which channels they are.
+use Rattle.std.proofs.Common.{◌≡◌, ◌≤◌, ℕ, zero, suc, List, [], ◌∷◌, Bool, true, false, cond, ◌&&◌, Option, Some, None, refl, ap, sym, ◌∙◌, subst, length, drop, arith, inl, inr}
 use Rattle.std.specs.List.{AllByRecursion, filter}
 use Rattle.std.proofs.lemmas.Bool.{cases_lt, cond-true, cond-false}
 use Rattle.retune_model.specs.Pairs.{Pair, is_same_pair, is_before, with_pair, pair_if, pairs_of}
@@ -17,11 +17,11 @@ use Rattle.retune_model.proofs.Lists.{filter_twice}
 use Rattle.retune_model.specs.PairOrder.{AreOrdered}
 use Rattle.retune_model.proofs.Ordered.{all_then, before_then, pairs_ordered}
 
-abbrev of_part : ℕ → Pair → Bool
-of_part c p = nat_eq p.part.channel c
+abbrev of_part : (ℕ → Bool) → Pair → Bool
+of_part c p = c p.part.channel
 
-abbrev on_channel : ℕ → Note → Bool
-on_channel c n = nat_eq n.channel c
+abbrev on_channel : (ℕ → Bool) → Note → Bool
+on_channel c n = c n.channel
 
 -- ---- of pairs
 with_first : (p : Pair) (ps : List Pair) → AllByRecursion (λ q. is_before p q ≡ true) ps → with_pair p ps ≡ p ∷ ps
@@ -39,7 +39,7 @@ all_filtered {A} P g (x ∷ xs) h = pick (g x) (all_filtered P g xs h.1)
 all_after : (p : Pair) (q : Pair) (qs : List Pair) → is_before p q ≡ true → AreOrdered (q ∷ qs) → AllByRecursion (λ x. is_before p x ≡ true) (q ∷ qs)
 all_after p q qs h o = (h, all_then (λ x. is_before q x ≡ true) (λ x. is_before p x ≡ true) (λ x g. before_then p q x h g) qs o.0)
 
-passes : (c : ℕ) (p : Pair) (ps : List Pair) → AreOrdered ps → of_part c p ≡ true → filter (of_part c) (with_pair p ps) ≡ with_pair p (filter (of_part c) ps)
+passes : (c : ℕ → Bool) (p : Pair) (ps : List Pair) → AreOrdered ps → of_part c p ≡ true → filter (of_part c) (with_pair p ps) ≡ with_pair p (filter (of_part c) ps)
 passes c p [] o h = cond-true (of_part c p) (p ∷ []) [] h
 passes c p (q ∷ qs) o h = pick (is_before p q) (is_same_pair p q) (of_part c q) refl refl refl (passes c p qs o.1 h)
   where
@@ -62,7 +62,7 @@ passes c p (q ∷ qs) o h = pick (is_before p q) (is_same_pair p q) (of_part c q
         ∙ cond-false (is_same_pair p q) (q ∷ filter (of_part c) qs) (q ∷ with_pair p (filter (of_part c) qs)) f)
     pick false false false e f g r = cond-false (of_part c q) (q ∷ filter (of_part c) (with_pair p qs)) (filter (of_part c) (with_pair p qs)) g ∙ r
 
-stops : (c : ℕ) (p : Pair) (ps : List Pair) → of_part c p ≡ false → filter (of_part c) (with_pair p ps) ≡ filter (of_part c) ps
+stops : (c : ℕ → Bool) (p : Pair) (ps : List Pair) → of_part c p ≡ false → filter (of_part c) (with_pair p ps) ≡ filter (of_part c) ps
 stops c p [] h = cond-false (of_part c p) (p ∷ []) [] h
 stops c p (q ∷ qs) h = pick (is_before p q) (is_same_pair p q) (stops c p qs h)
   where
@@ -71,7 +71,7 @@ stops c p (q ∷ qs) h = pick (is_before p q) (is_same_pair p q) (stops c p qs h
     pick false true r = refl
     pick false false r = ap (λ xs. cond (of_part c q) (q ∷ xs) xs) r
 
-pairs_alone : (z : ℕ) (o : Options) (table : Targets) (c : ℕ) (ns : List Note) → filter (of_part c) (pairs_of z o table ns) ≡ pairs_of z o table (filter (on_channel c) ns)
+pairs_alone : (z : ℕ) (o : Options) (table : Targets) (c : ℕ → Bool) (ns : List Note) → filter (of_part c) (pairs_of z o table ns) ≡ pairs_of z o table (filter (on_channel c) ns)
 pairs_alone z o table c [] = refl
 pairs_alone z o table c (n ∷ ns) = pick (target_of o table n) (on_channel c n) refl refl (pairs_alone z o table c ns)
   where
@@ -113,10 +113,10 @@ front_at {at} {tick} {reset} {begun} T j (suc k) l = elim (cases_lt k j) [
   | inr g ↦ front_then (at j) (at k) (at (suc k)) (front_at T j k g) (front_grown (tick (suc k)) (begun (suc k)) (at k) (at (suc k)) (T.grows k))
 ]
 
-drop_alone : (c : ℕ) (ys xs : List Note) → Front ys xs → filter (on_channel c) (drop (length ys) xs) ≡ drop (length (filter (on_channel c) ys)) (filter (on_channel c) xs)
+drop_alone : (c : ℕ → Bool) (ys xs : List Note) → Front ys xs → filter (on_channel c) (drop (length ys) xs) ≡ drop (length (filter (on_channel c) ys)) (filter (on_channel c) xs)
 drop_alone c [] xs f = refl
 drop_alone c (y ∷ ys) [] f = absurd f
-drop_alone c (y ∷ ys) (x ∷ xs) f = pick (on_channel c y) (on_channel c x) (ap (λ d. nat_eq d c) f.0) (drop_alone c ys xs f.1)
+drop_alone c (y ∷ ys) (x ∷ xs) f = pick (on_channel c y) (on_channel c x) (ap c f.0) (drop_alone c ys xs f.1)
   where
     pick : (a b : Bool) → b ≡ a → filter (on_channel c) (drop (length ys) xs) ≡ drop (length (filter (on_channel c) ys)) (filter (on_channel c) xs)
         → filter (on_channel c) (drop (length ys) xs) ≡ drop (length (cond a (y ∷ filter (on_channel c) ys) (filter (on_channel c) ys))) (cond b (x ∷ filter (on_channel c) xs) (filter (on_channel c) xs))
@@ -135,11 +135,11 @@ swapped f g (n ∷ ns) = pick (f n) (g n) refl refl (swapped f g ns)
     pick false true e h r = r ∙ sym (cond-false (f n) (n ∷ filter f (filter g ns)) (filter f (filter g ns)) e)
     pick false false e h r = r
 
-notes_alone : (part : ℕ → Bool) (c : ℕ) (ns : List Numbered) (k : ℕ) → notes_at (λ d. part d && nat_eq d c) ns k ≡ filter (on_channel c) (notes_at part ns k)
+notes_alone : (part : ℕ → Bool) (c : ℕ → Bool) (ns : List Numbered) (k : ℕ) → notes_at (λ d. part d && c d) ns k ≡ filter (on_channel c) (notes_at part ns k)
 notes_alone part c ns k = sym (filter_twice (λ n. part n.channel) (on_channel c) (music_at ns k).notes)
 
-pub part_alone : (o : Options) (part : ℕ → Bool) (table : Targets) (port : PortEvents) (c : ℕ) → Timely port → (k : ℕ)
-    → filter (of_part c) (pairs_at o part table port k) ≡ pairs_at o (λ d. part d && nat_eq d c) table port k
+pub part_alone : (o : Options) (part : ℕ → Bool) (table : Targets) (port : PortEvents) (c : ℕ → Bool) → Timely port → (k : ℕ)
+    → filter (of_part c) (pairs_at o part table port k) ≡ pairs_at o (λ d. part d && c d) table port k
 part_alone o part table port c timed k =
     let r : ℕ = last_reset (is_reset_at port.events) k in
     pairs_alone port.number o table c (holding part o.tail port k)
@@ -148,4 +148,29 @@ part_alone o part table port c timed k =
     ∙ ap (filter (lasts o.tail (port.tick k))) (
     drop_alone c (notes_at part port.events r) (notes_at part port.events k) (front_at (timeline part port timed) r k (last_reset_le (is_reset_at port.events) k))
     ∙ ap (λ ys. drop (length ys) (filter (on_channel c) (notes_at part port.events k))) (sym (notes_alone part c port.events r))
-    ∙ ap (drop (past_at (λ d. part d && nat_eq d c) port.events k)) (sym (notes_alone part c port.events k))))
+    ∙ ap (drop (past_at (λ d. part d && c d) port.events k)) (sym (notes_alone part c port.events k))))
+
+-- ---- tests that say the same
+notes_same : (f g : ℕ → Bool) → ((c : ℕ) → f c ≡ g c) → (ns : List Note) → filter (on_channel f) ns ≡ filter (on_channel g) ns
+notes_same f g same [] = refl
+notes_same f g same (n ∷ ns) =
+    ap (λ b. cond b (n ∷ filter (on_channel f) ns) (filter (on_channel f) ns)) (same n.channel)
+    ∙ ap (λ xs. cond (g n.channel) (n ∷ xs) xs) (notes_same f g same ns)
+
+pairs_same : (o : Options) (f g : ℕ → Bool) → ((c : ℕ) → f c ≡ g c) → (table : Targets) (port : PortEvents) (k : ℕ) → pairs_at o f table port k ≡ pairs_at o g table port k
+pairs_same o f g same table port k =
+    let r : ℕ = last_reset (is_reset_at port.events) k in
+    let h : List Note → List Note → List Pair = λ past ns. pairs_of port.number o table (filter (lasts o.tail (port.tick k)) (drop (length past) ns)) in
+    ap (λ past. h past (notes_at f port.events k)) (notes_same f g same (music_at port.events r).notes)
+    ∙ ap (h (notes_at g port.events r)) (notes_same f g same (music_at port.events k).notes)
+
+-- some of the parts
+pub parts_within : (o : Options) (part some : ℕ → Bool) (table : Targets) (port : PortEvents) → Timely port → ((c : ℕ) → some c ≡ true → part c ≡ true) → (k : ℕ)
+    → filter (of_part some) (pairs_at o part table port k) ≡ pairs_at o some table port k
+parts_within o part some table port timed within k =
+    part_alone o part table port some timed k ∙ pairs_same o (λ d. part d && some d) some (λ d. both (part d) (some d) (within d)) table port k
+  where
+    both : (a b : Bool) → (b ≡ true → a ≡ true) → (a && b) ≡ b
+    both true b f = refl
+    both false true f = f refl
+    both false false f = refl

@@ -215,7 +215,7 @@ if_keeps z o table n ps x h = pick (target_of o table n)
     pick (Some t) = with_keeps (record { part = record { port = z; channel = n.channel }; steps = t.steps }) ps x h
     pick None = h
 
-if_back : (z : ℕ) (o : Options) (table : Targets) (n : Note) (ps : List Pair) (x : Pair) → Has (pair_if z n.channel (target_of o table n) ps) x → ((pair_of z o table n ≡ x) × HasTarget o table n) ⊎ Has ps x
+pub if_back : (z : ℕ) (o : Options) (table : Targets) (n : Note) (ps : List Pair) (x : Pair) → Has (pair_if z n.channel (target_of o table n) ps) x → ((pair_of z o table n ≡ x) × HasTarget o table n) ⊎ Has ps x
 if_back z o table n ps x h = pick (target_of o table n) h
   where
     pick : (t : Option BendTarget) → Has (pair_if z n.channel t ps) x → ((made z n.channel (steps_of t) ≡ x) × (is_some t ≡ true)) ⊎ Has ps x

@@ -1,5 +1,5 @@
 -- The pairs of the notes that hold, and those whose runs hold a channel, over the events of one port.
-use Rattle.std.proofs.Common.{◌≡◌, ◌≤◌, ◌<◌, ℕ, zero, suc, List, [], ◌∷◌, Bool, true, false, cond, not, ◌&&◌, Option, refl, ap, sym, ◌∙◌, subst, length, get_or, drop, arith, inl, inr}
+use Rattle.std.proofs.Common.{◌≡◌, ◌≤◌, ◌<◌, ◌+◌, ℕ, zero, suc, List, [], ◌∷◌, Bool, true, false, cond, not, ◌&&◌, Option, refl, ap, sym, ◌∙◌, subst, length, get_or, drop, arith, inl, inr}
 use Rattle.std.specs.Prelude.{is_some, ◌⊎◌}
 use Rattle.std.specs.List.{AllByRecursion, filter}
 use Rattle.std.specs.Set.{is_member}
@@ -15,10 +15,10 @@ use Rattle.retune_model.specs.Need.{ArePairs}
 use Rattle.retune_model.specs.Runs.{begins, OneBegins, HoldUnbroken}
 use Rattle.midi_model.specs.MusicLaws.{Ages}
 use Rattle.retune_model.specs.Rests.{notes_at, nobody, past_at, lasts, holding, pairs_at, held_at, begun_at, holds_at, pair_of, pair_at, steps_of, began_at, AreAimed}
-use Rattle.retune_model.proofs.Timeline.{Timeline, count, note, count_le, ages, new, Holds, holds_parts, holds_from, new_holds, held_before, sounding_holds, silent_past, EndedBy, ended_by, lasts_without_tail, sounding_lasts, first_with_below}
+use Rattle.retune_model.proofs.Timeline.{Timeline, AtMostOne, length_grown, count, note, count_le, ages, new, Holds, holds_parts, holds_from, new_holds, held_before, sounding_holds, silent_past, EndedBy, ended_by, lasts_without_tail, sounding_lasts, first_with_below}
 use Rattle.retune_model.proofs.Moments.{Timely, HasTarget, begun_to, timeline, pairs_begun_at, aimed_at}
 use Rattle.retune_model.proofs.Lists.{filter_twice}
-use Rattle.retune_model.proofs.Ordered.{pairs_ordered, ordered_distinct, Has, if_has, found_behind, placed_behind}
+use Rattle.retune_model.proofs.Ordered.{pairs_ordered, ordered_distinct, Has, if_has, if_back, found_behind, placed_behind}
 
 -- ---- the pair of a note stays
 named : ℕ → ℕ → Option BendTarget → Pair
@@ -177,6 +177,32 @@ pairs_next o part table port timed aimed k p m =
           (subst (λ (ps : List Pair). Has ps (pair_of port.number o table n)) (ap (pairs_of port.number o table) (sym alone) ∙ pairs_begun_at o part table port k)
           (if_has port.number o table n [] (has_target o table T (aimed_at o part table port.events aimed) (suc k) x.0 x.1.holds.begun))))
     ]
+
+-- the pair that an event begins is there after it
+pub begun_there : (o : Options) (part : ℕ → Bool) (table : Targets) (port : PortEvents) → Timely port → AreAimed o part table port.events → (k : ℕ) (p : Pair)
+    → Has (begun_at o part table port (suc k)) p → Has (pairs_at o part table port (suc k)) p
+begun_there o part table port timed aimed k p m =
+    pick (begun_to part port.events (suc k)) refl (subst (λ (ps : List Pair). Has ps p) (sym (pairs_begun_at o part table port k)) m)
+  where
+    at : ℕ → List Note
+    at = notes_at part port.events
+
+    is_of : (b : Note) → Has (pairs_of port.number o table (b ∷ [])) p → pair_of port.number o table b ≡ p
+    is_of b h = elim (if_back port.number o table b [] p h) [ inl same ↦ same.0 | inr none ↦ absurd cc ]
+
+    pick : (bs : List Note) → begun_to part port.events (suc k) ≡ bs → Has (pairs_of port.number o table bs) p → Has (pairs_at o part table port (suc k)) p
+    pick [] e h = absurd cc
+    pick (b ∷ c ∷ bs) e h = absurd (subst AtMostOne e ((timeline part port timed).one k))
+    pick (b ∷ []) e h =
+        let T = timeline part port timed in
+        let i : ℕ = count at k in
+        let one : length (begun_to part port.events (suc k)) ≡ 1 = ap length e in
+        let more : count at (suc k) ≡ count at k + length (begun_to part port.events (suc k)) = length_grown (port.tick (suc k)) (begun_to part port.events (suc k)) (at k) (at (suc k)) (T.grows k) in
+        let there : i < count at (suc k) = omega (arith, one, more) in
+        let alone : begun_to part port.events (suc k) ≡ note at (suc k) i ∷ [] = (new T k i (omega arith) there).alone in
+        let same : note at (suc k) i ≡ b = ap (λ bs. get_or bs 0 nobody) (sym alone ∙ e) in
+        subst (λ (q : Pair). Has (pairs_at o part table port (suc k)) q) (ap (pair_of port.number o table) same ∙ is_of b h)
+        (has_at o part table port timed aimed (suc k) i (new_holds T o.tail k i (omega arith) there))
 
 -- a pair is held at the event that leads to its position, or at the next
 pub held_near : (o : Options) (part : ℕ → Bool) (table : Targets) (port : PortEvents) → Timely port → AreAimed o part table port.events → (k : ℕ) (p : Pair)

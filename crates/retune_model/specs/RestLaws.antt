@@ -60,6 +60,11 @@ HeldOrBegun = (o : Options) (part : ℕ → Bool) (table : Targets) (port : Port
     is_member is_same_pair (pairs_at o part table port (suc k)) p ≡ true →
     (is_member is_same_pair (held_at o part table port (suc k)) p ≡ true) ⊎ (is_member is_same_pair (begun_at o part table port (suc k)) p ≡ true)
 
+-- and the pair that an event begins is there after it
+abbrev pub BegunIsThere : Type 0
+BegunIsThere = (o : Options) (part : ℕ → Bool) (table : Targets) (port : PortEvents) → IsAimedPort o part table port → (k : ℕ) (p : Pair) →
+    is_member is_same_pair (begun_at o part table port (suc k)) p ≡ true → is_member is_same_pair (pairs_at o part table port (suc k)) p ≡ true
+
 -- what is there at a position is held at the event that leads to it, or at the next
 abbrev pub HeldNear : Type 0
 HeldNear = (o : Options) (part : ℕ → Bool) (table : Targets) (port : PortEvents) → IsAimedPort o part table port → (k : ℕ) (p : Pair) →
@@ -116,3 +121,8 @@ EndsAreKept = (o : Options) (part : ℕ → Bool) (table : Targets) (port : Port
 abbrev pub PartsApart : Type 0
 PartsApart = (o : Options) (part : ℕ → Bool) (table : Targets) (port : PortEvents) (c : ℕ) → AreTimed port → (k : ℕ) →
     filter (λ p. nat_eq p.part.channel c) (pairs_at o part table port k) ≡ pairs_at o (λ d. part d && nat_eq d c) table port k
+
+-- so are those of some of the parts
+abbrev pub PartsWithin : Type 0
+PartsWithin = (o : Options) (part some : ℕ → Bool) (table : Targets) (port : PortEvents) → AreTimed port → ((c : ℕ) → some c ≡ true → part c ≡ true) → (k : ℕ) →
+    filter (λ p. some p.part.channel) (pairs_at o part table port k) ≡ pairs_at o some table port k

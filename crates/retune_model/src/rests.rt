@@ -1,6 +1,6 @@
 //! Laws of notes that sound or rest. The functions do nothing: their contracts are what is stated.
 
-ghost use Rattle.retune_model.specs.RestLaws.{NotesHoldAsWritten, PairsAreHeldAsWritten, PairsAreOfNotes, OneRunBegins, NotesHoldUnbroken, HeldWasThere, SoundingIsHeld, HeldOrBegun, HeldNear, RestsRunOutElsewhere, ResetsEndAll, OnlySoundingHold, HeldIsThere, LastEndsTell, ResetsForgetEnds, EndsAreKept, PartsApart};
+ghost use Rattle.retune_model.specs.RestLaws.{NotesHoldAsWritten, PairsAreHeldAsWritten, PairsAreOfNotes, OneRunBegins, NotesHoldUnbroken, HeldWasThere, SoundingIsHeld, HeldOrBegun, HeldNear, BegunIsThere, RestsRunOutElsewhere, ResetsEndAll, OnlySoundingHold, HeldIsThere, LastEndsTell, ResetsForgetEnds, EndsAreKept, PartsApart, PartsWithin};
 
 use midi_model::music_laws;
 
@@ -24,12 +24,14 @@ pub fn rests_are_runs()
 }
 
 /// What is held at an event held before it; what sounds before an event is held at it; and after an event there are no other pairs
-/// than those that were held at it and the one that it begins. What is there is held at the event that leads there, or at the next.
+/// than those that were held at it and the one that it begins, which is there. What is there is held at the event that leads
+/// there, or at the next.
 pub fn held_laws()
     ensures within { HeldWasThere }
     ensures sounding { SoundingIsHeld }
     ensures next { HeldOrBegun }
     ensures near { HeldNear }
+    ensures begun { BegunIsThere }
 {
     music_laws();
 }
@@ -60,9 +62,10 @@ pub fn last_ends()
     music_laws();
 }
 
-/// The pairs of one part are those of its notes alone.
+/// The pairs of one part, or of some of the parts, are those of their notes alone.
 pub fn part_alone()
-    ensures { PartsApart }
+    ensures alone { PartsApart }
+    ensures within { PartsWithin }
 {
     music_laws();
 }
