@@ -10,9 +10,9 @@ use Rattle.midi_model.specs.Zones.{Zones, governor, bend_range, bend_range_at, b
 use Rattle.midi_model.specs.Sysex.{Plays, Resets, Nothing, Retune, doing, tunes, is_reset, tuning_of}
 use Rattle.midi_model.specs.Music.{Music, asks, zones_after, advance}
 use Rattle.midi_model.specs.Receiver.{after}
-use Rattle.receiver.specs.declared.receiver.Receiver.{Receiver}
+use Rattle.receiver.specs.declared.player.Player.{Player}
 use Rattle.receiver.specs.State.{own_of}
-use Rattle.receiver.specs.Stands.{Stands, AreFew, HasRoom, HasRoomIn}
+use Rattle.receiver.specs.Stands.{PlayerStands, AreFew, HasRoom, HasRoomIn}
 use Rattle.receiver.proofs.Tidy.{not_counted}
 use Rattle.receiver.proofs.Slots.{after_append}
 
@@ -78,13 +78,13 @@ room_before : (m : Music) (t : ℕ) (msg : Msg) → channel_of msg < length m.ch
 room_before m t msg low h = set_few m.channels (channel_of msg) _ low ((set_up_few (asks m msg) (zones_after m msg) _).1 h)
 
 -- the same, for what stands for a list of events
-pub few_more : (r : Receiver) (es : List MidiEvent) (e : MidiEvent) → Stands r es → HasRoom r e.what → AreFew (after (es ++ e ∷ [])).music
+pub few_more : (r : Player) (es : List MidiEvent) (e : MidiEvent) → PlayerStands r es → HasRoom r e.what → AreFew (after (es ++ e ∷ [])).music
 few_more r es e stands room =
     let P : List Channel → Type 0 = λ ss. HasRoomIn ss e.what in
     subst (λ x. AreFew x.music) (sym (after_append es e)) (few_after (after es).music e.tick e.what stands.few (subst P stands.channels room))
 
-pub room_for : (r : Receiver) (es : List MidiEvent) (e : MidiEvent) (msg : Msg) → length r.channels ≡ 16 → channel_of msg < 16
-    → Stands r es → e.what ≡ Says msg
+pub room_for : (r : Player) (es : List MidiEvent) (e : MidiEvent) (msg : Msg) → length r.channels ≡ 16 → channel_of msg < 16
+    → PlayerStands r es → e.what ≡ Says msg
     → AreFew (after (es ++ e ∷ [])).music → HasRoom r (Says msg)
 room_for r es e msg all low stands same few =
     let m : Music = (after es).music in

@@ -10,7 +10,7 @@ use Rattle.std.proofs.lemmas.Bool.{eq-eqb, ne_eqb}
 use Rattle.receiver.specs.State.{own_of}
 use Rattle.receiver.specs.Heard.{heard, turned_by, without_pedal}
 use Rattle.receiver.specs.Following.{turn_of, reaches, SameSetUp}
-use Rattle.receiver.specs.declared.receiver.Receiver.{Receiver}
+use Rattle.receiver.specs.declared.player.Player.{Player}
 use Rattle.receiver.specs.Turns.{kept}
 use Rattle.receiver.specs.declared.turn.Turn.{Turn}
 use Rattle.receiver.specs.declared.playing.Playing.{Playing}
@@ -95,13 +95,12 @@ turned_none turn t z c xs i is e k = elim (eqb_tells e i) [
   | inr u ↦ rw u.0 refl
 ]
 
-pub then_same : (r s t : Receiver) → SameSetUp r s → SameSetUp s t → SameSetUp r t
+pub then_same : (r s t : Player) → SameSetUp r s → SameSetUp s t → SameSetUp r t
 then_same r s t h k = record {
   states = k.states ∙ h.states;
   selected = k.selected ∙ h.selected;
   zones = k.zones ∙ h.zones;
   begun = k.begun ∙ h.begun;
-  tunings = k.tunings ∙ h.tunings;
 }
 
 nothing : (b : Bool) → kept (λ n. n) None ≡ cond b None (without_pedal None)

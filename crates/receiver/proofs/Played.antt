@@ -17,12 +17,12 @@ use Rattle.midi_model.specs.Tuning.{selected_of}
 use Rattle.midi_model.specs.Receiver.{Receiver as Model, after}
 use Rattle.midi_model.specs.Played.{fine, coarse, by_program, bends, played}
 use Rattle.receiver.specs.declared.playing.Playing.{Playing}
-use Rattle.receiver.specs.declared.receiver.Receiver.{Receiver}
+use Rattle.receiver.specs.declared.player.Player.{Player}
 use Rattle.receiver.specs.Notes.{Told, note_of}
 use Rattle.receiver.specs.Heard.{heard_by, heard}
 use Rattle.receiver.specs.Sounding.{sounding_at}
 use Rattle.receiver.specs.State.{own_of}
-use Rattle.receiver.specs.Stands.{Stands}
+use Rattle.receiver.specs.Stands.{PlayerStands}
 use Rattle.receiver.proofs.Here.{IsHere, slot_here}
 
 -- n times what is at least -d, and at most d
@@ -64,14 +64,14 @@ pub bend_kept : (n b : ℕ) → n ≤ 1000000000000 → b ≤ 16383
 bend_kept n b few low = to_z-of_z w128 _ (bend_fits n b few low) ∙ bend_product n b few low
 
 -- a channel's own state, and its tuning program
-pub own_stands : (r : Receiver) (es : List MidiEvent) (c i : ℕ) (d : Playing) → Stands r es → length r.channels ≡ 16 → c < 16 → i ≡ c
+pub own_stands : (r : Player) (es : List MidiEvent) (c i : ℕ) (d : Playing) → PlayerStands r es → length r.channels ≡ 16 → c < 16 → i ≡ c
     → own_of (get_or r.channels i d).state ≡ channel_at (after es).music c
 own_stands r es c i d stands all low same =
     ap (λ j. own_of (get_or r.channels j d).state) same
     ∙ sym (get_or-map (λ s. own_of s.state) r.channels c d default_channel (omega (arith, all, low)))
     ∙ ap (λ ss. get_or ss c default_channel) stands.channels
 
-pub selected_stands : (r : Receiver) (es : List MidiEvent) (c i : ℕ) (d : Playing) → Stands r es → length r.channels ≡ 16 → c < 16 → i ≡ c
+pub selected_stands : (r : Player) (es : List MidiEvent) (c i : ℕ) (d : Playing) → PlayerStands r es → length r.channels ≡ 16 → c < 16 → i ≡ c
     → (get_or r.channels i d).state.tuning ≡ selected_of (after es).tuning c
 selected_stands r es c i d stands all low same =
     ap (λ j. (get_or r.channels j d).state.tuning) same
@@ -96,7 +96,7 @@ is_heard c k p None some = some
 is_heard c k p (Some n) some = refl
 
 -- where a note sounds on a key, the pitch is that
-pub pitch_stands : (r : Receiver) (es : List MidiEvent) (c k i : ℕ) (d : Playing) → Stands r es → length r.channels ≡ 16 → c < 16 → k < 128 → i ≡ c
+pub pitch_stands : (r : Player) (es : List MidiEvent) (c k i : ℕ) (d : Playing) → PlayerStands r es → length r.channels ≡ 16 → c < 16 → k < 128 → i ≡ c
     → is_some (note_of (get_or r.channels i d).keys k) ≡ true
     → option_map (λ x. played (after es) x.1) (sounding_at (after es).music.notes c k) ≡ Some (played_at (after es) c k)
 pitch_stands r es c k i d stands all low below same some =

@@ -1,20 +1,21 @@
 -- What stands for a list of events stands, after one more event, for the list with that event at its end.
-use Rattle.std.proofs.Common.{arith, ◌≤◌, ◌≡◌, ◌<◌, ◌+◌, ◌++◌, ◌&&◌, ◌||◌, not, ℕ, suc, List, [], ◌∷◌, Bool, true, false, cond, Option, None, is_some, refl, ap, sym, ◌∙◌, set, get_or, length, add-one}
+use Rattle.std.proofs.Common.{arith, ◌≤◌, ◌≡◌, ◌<◌, ◌+◌, ◌++◌, ◌&&◌, ◌||◌, not, ℕ, suc, List, [], ◌∷◌, Bool, true, false, cond, Option, Some, None, is_some, refl, ap, sym, ◌∙◌, set, get_or, length, add-one}
 use Rattle.std.proofs.lemmas.List.{set-get_or}
 use Rattle.mt_base.specs.Midi.{MidiEvent}
 use Rattle.mt_base.specs.declared.event.Msg.{Msg}
 use Rattle.mt_base.specs.declared.event.Msg.TheVariants.{NoteOn, NoteOff, KeyPressure, Control, Program, Pressure, Bend}
 use Rattle.midi_model.specs.Channel.{Role, Stored, EntryHigh, EntryLow, NrpnLow, NrpnHigh, RpnLow, RpnHigh, AllSoundOff, ResetControllers, AllNotesOff, Ignored, role, Target, Nowhere, TuningProgram, ZoneSize, Value, target}
-use Rattle.midi_model.specs.Sysex.{Doing, Plays, Resets, Tunes, Nothing, doing}
+use Rattle.midi_model.specs.Sysex.{Retune, Doing, Plays, Resets, Tunes, Nothing, doing, tunes}
 use Rattle.midi_model.specs.Music.{Music, channel_at, advance, step}
 use Rattle.midi_model.specs.Tuning.{Tuning, chosen, chosen_by, tuning_heard, tuning_after}
 use Rattle.midi_model.specs.Receiver.{after, receive}
-use Rattle.receiver.specs.declared.receiver.Receiver.{Receiver}
+use Rattle.receiver.specs.declared.player.Player.{Player}
 use Rattle.receiver.specs.Sounding.{sounding_at, ended_on}
 use Rattle.receiver.specs.Following.{FollowsBy}
-use Rattle.receiver.specs.Stands.{Stands, HasRoom, set_up_of, slot, selected_in}
+use Rattle.receiver.specs.Stands.{PlayerStands, HoldValues, HasRoom, set_up_of, slot, selected_in}
 use Rattle.receiver.specs.State.{program_chosen, program_by}
-use Rattle.receiver.specs.Tunings.{value_in}
+use Rattle.receiver.specs.declared.tunings.Tunings.{Tunings}
+use Rattle.receiver.specs.Tunings.{value_in, HearsBy}
 use Rattle.receiver.specs.Turns.{set_up, begins, strikes, sounding_after, channels_by, zones_by, selected_by, values_by}
 use Rattle.receiver.proofs.Limit.{few_more}
 use Rattle.receiver.proofs.Retuning.{retuned_same}
@@ -103,7 +104,7 @@ step_values m (Tunes r) s f p k e = retuned_same r.program r.keys f s.values p k
 step_values m Nothing s f p k e = e
 
 -- the same channels and zones
-same_set_up : (r : Receiver) (es : List MidiEvent) → Stands r es → set_up_of r ≡ set_up (after es).music.channels (after es).music.zones
+same_set_up : (r : Player) (es : List MidiEvent) → PlayerStands r es → set_up_of r ≡ set_up (after es).music.channels (after es).music.zones
 same_set_up r es h = ap (λ ss. set_up ss (set_up_of r).zones) h.channels ∙ ap (set_up (after es).music.channels) h.zones
 
 more : (b : Bool) (n k : ℕ) → n ≡ k → cond b (n + 1) n ≡ cond b (suc k) k
@@ -116,7 +117,7 @@ one_more true n = omega arith
 one_more false n = omega arith
 
 -- the note of a key
-slot_then : (r s : Receiver) (t : ℕ) (es : List MidiEvent) (e : MidiEvent) → Stands r es → FollowsBy r t (doing e.what) s → e.tick ≡ t → AtMostOne (after es).music.notes
+slot_then : (r s : Player) (t : ℕ) (es : List MidiEvent) (e : MidiEvent) → PlayerStands r es → FollowsBy r t (doing e.what) s → e.tick ≡ t → AtMostOne (after es).music.notes
     → (c k : ℕ) → c < 16 → k < 128 → slot s c k ≡ sounding_at (step (after es).music e).notes c k
 slot_then r s t es e h f at one c k cl kl =
     let m = (after es).music in
@@ -127,8 +128,8 @@ slot_then r s t es e h f at one c k cl kl =
     ∙ ap (sounding_after (set_up m.channels m.zones) (r.begun + 1) e.tick (doing e.what) c k) (h.notes c k cl kl)
     ∙ sym (sounding_step m e (r.begun + 1) c k next one)
 
-pub stands_then : (r s : Receiver) (t : ℕ) (es : List MidiEvent) (e : MidiEvent) → Stands r es → HasRoom r e.what → FollowsBy r t (doing e.what) s → e.tick ≡ t → AtMostOne (after es).music.notes
-    → Stands s (es ++ e ∷ [])
+pub stands_then : (r s : Player) (t : ℕ) (es : List MidiEvent) (e : MidiEvent) → PlayerStands r es → HasRoom r e.what → FollowsBy r t (doing e.what) s → e.tick ≡ t → AtMostOne (after es).music.notes
+    → PlayerStands s (es ++ e ∷ [])
 stands_then r s t es e h room f at one =
     let m = (after es).music in
     let u = (after es).tuning in
@@ -140,12 +141,23 @@ stands_then r s t es e h room f at one =
       begun = f.begun ∙ more (begins d) r.begun (length m.notes) h.begun ∙ sym (ap (λ x. length x.music.notes) now ∙ count_step m e);
       notes = λ c k cl kl. slot_then r s t es e h f at one c k cl kl ∙ sym (ap (λ x. sounding_at x.music.notes c k) now);
       selected = f.selected ∙ ap (λ x. selected_by x d (selected_in r)) (same_set_up r es h) ∙ ap (selected_by (set_up m.channels m.zones) d) h.selected ∙ step_selected m d u ∙ sym (ap (λ x. x.tuning.selected) now);
-      values = λ p k pl kl. f.values p k pl kl ∙ step_values m d u (value_in r.tunings) p k (h.values p k pl kl) ∙ sym (ap (λ x. x.tuning.values p k) now);
       few = few_more r es e h room;
     }
 
+-- a tuning message changes nothing that the player keeps
+pub unplayed : (p : Player) (t : ℕ) (o : Option Retune) → FollowsBy p t (tunes o) p
+unplayed p t None = record { states = refl; zones = refl; begun = refl; notes = λ c k cl kl. refl; selected = refl }
+unplayed p t (Some r) = record { states = refl; zones = refl; begun = refl; notes = λ c k cl kl. refl; selected = refl }
+
+-- the tuning programs
+pub values_then : (old new : Tunings) (es : List MidiEvent) (e : MidiEvent) → HoldValues old es → HearsBy (doing e.what) old new → HoldValues new (es ++ e ∷ [])
+values_then old new es e h f p k pl kl =
+    f p k pl kl
+    ∙ step_values (after es).music (doing e.what) (after es).tuning (value_in old) p k (h p k pl kl)
+    ∙ sym (ap (λ x. x.tuning.values p k) (after_append es e))
+
 -- which notes ended
-pub ended_then : (r s : Receiver) (t : ℕ) (es : List MidiEvent) (e : MidiEvent) → Stands r es → FollowsBy r t (doing e.what) s → e.tick ≡ t → AtMostOne (after es).music.notes
+pub ended_then : (r s : Player) (t : ℕ) (es : List MidiEvent) (e : MidiEvent) → PlayerStands r es → FollowsBy r t (doing e.what) s → e.tick ≡ t → AtMostOne (after es).music.notes
     → (c k : ℕ) → c < 16 → k < 128
     → (is_some (slot r c k) && (strikes (doing e.what) c k || not (is_some (slot s c k)))) ≡ ended_on c k (after es).music.notes (after (es ++ e ∷ [])).music.notes
 ended_then r s t es e h f at one c k cl kl =

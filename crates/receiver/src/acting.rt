@@ -11,13 +11,13 @@ ghost use Rattle.receiver.specs.Zones.{zones_in};
 ghost use Rattle.receiver.specs.Following.{NotesStay, SlotsBecome, SameBesideStates};
 ghost use Rattle.receiver.specs.Stands.{HasRoom, states_of, selected_in, set_up_of};
 
-use crate::receiver::Receiver;
+use crate::player::Player;
 use crate::role::Selected;
 use crate::strokes::{channel_at, channel_number};
 use mt_base::{Channel, Msg};
 
 // What a message does to the channels and the zones, before the notes end that nothing holds.
-impl Receiver {
+impl Player {
     /// How many members a controller asks a zone for, which is the lower one on the first channel
     /// and the upper one on the last. More than 15 count as 15.
     fn asked(&self, channel: Channel, number: u8, value: u8) -> Option<u8>
@@ -76,7 +76,6 @@ impl Receiver {
         ensures zones { zones_in self.new.zones
             ≡ zones_with (Some (master, members)) (zones_in self.old.zones) }
         ensures begun { self.new.begun ≡ self.old.begun }
-        ensures tunings { self.new.tunings ≡ self.old.tunings }
     {
         self.zones.set(master.number() == 0, members);
         if members > 0 {
@@ -94,7 +93,6 @@ impl Receiver {
             ≡ selected_by (set_up_of self.old) (Plays message.now) (selected_in self.old) }
         ensures zones { self.new.zones ≡ self.old.zones }
         ensures begun { self.new.begun ≡ self.old.begun }
-        ensures tunings { self.new.tunings ≡ self.old.tunings }
     {
         self.channels[channel_number(message) as usize].apply(message);
     }
@@ -115,7 +113,6 @@ impl Receiver {
         ensures zones { zones_in self.new.zones
             ≡ zones_after (set_up_of self.old) (Control channel number value) }
         ensures begun { self.new.begun ≡ self.old.begun }
-        ensures tunings { self.new.tunings ≡ self.old.tunings }
     {
         self.turn_notes(channel, number, value, tick);
         let asked = self.asked(channel, number, value);
@@ -139,7 +136,6 @@ impl Receiver {
         ensures zones { zones_in self.new.zones ≡ zones_after (set_up_of self.old) message.now }
         ensures begun { self.new.begun
             ≡ (if begins_by message.now then self.old.begun + 1 else self.old.begun) }
-        ensures tunings { self.new.tunings ≡ self.old.tunings }
     {
         let channel = message.channel();
         match *message {

@@ -8,21 +8,20 @@ ghost use Rattle.midi_model.specs.Tuning.{selected_of};
 ghost use Rattle.midi_model.specs.Played.{bends};
 ghost use Rattle.receiver.specs.State.{own_of};
 ghost use Rattle.receiver.specs.Heard.{told};
-ghost use Rattle.receiver.specs.Sounding.{sounding_at, played_at};
-ghost use Rattle.receiver.specs.Stands.{Stands};
+ghost use Rattle.receiver.specs.Sounding.{sounding_at};
+ghost use Rattle.receiver.specs.Stands.{PlayerStands};
 
 use crate::note::Note;
-use crate::pitch::by_program;
-use crate::receiver::Receiver;
+use crate::player::Player;
 use crate::state::ChannelState;
-use mt_base::{Channel, Grain};
+use mt_base::Channel;
 
-// What can be asked of a receiver.
-impl Receiver {
+// What can be asked of a player.
+impl Player {
     /// The note that sounds on a key, 0 to 127.
     pub fn sounding(&self, channel: Channel, key: u8) -> Option<Note>
         requires { key ≤ 127 }
-        ensures { (es : List MidiEvent) → Stands self.now es
+        ensures { (es : List MidiEvent) → PlayerStands self.now es
             → result ≡ option_map told (sounding_at (after es).music.notes channel key) }
     {
         self.channels[channel.number() as usize].keys.note(key)
@@ -30,8 +29,8 @@ impl Receiver {
 
     /// The bends of a channel's notes, in grains: its own, and for a zone's member its master's
     /// too.
-    fn bends(&self, channel: Channel) -> i128
-        ensures bends { (es : List MidiEvent) → Stands self.now es
+    pub(crate) fn bends(&self, channel: Channel) -> i128
+        ensures bends { (es : List MidiEvent) → PlayerStands self.now es
             → result ≡ bends (after es) channel (master (after es).music.zones channel) }
         ensures low { neg_ℤ (pos (2 ^ 65)) ≤ℤ result }
         ensures high { result ≤ℤ pos (2 ^ 65) }
@@ -43,28 +42,13 @@ impl Receiver {
         }
     }
 
-    /// The pitch of the note that sounds on a key, 0 to 127, in grains above key 0.
-    pub fn played(&self, channel: Channel, key: u8) -> Option<Grain>
-        requires { key ≤ 127 }
-        ensures { (es : List MidiEvent) → Stands self.now es
-            → option_map (λ g. g.0) result ≡ played_at (after es) channel key }
-    {
-        let own = &self.channels[channel.number() as usize];
-        if !own.keys.is_sounding(key) {
-            return None;
-        }
-        let governor = &self.channels[self.zones.governor(channel) as usize].state;
-        let tuned = by_program(&self.tunings, governor.tuning, key);
-        Some(Grain(tuned + governor.fine() + governor.coarse() + self.bends(channel)))
-    }
-
     /// The state of a channel, with the pressures of its keys and its tuning program.
     pub fn state(&self, channel: Channel) -> &ChannelState
-        ensures own { (es : List MidiEvent) → Stands self.now es → own_of result.now
+        ensures own { (es : List MidiEvent) → PlayerStands self.now es → own_of result.now
             ≡ channel_at (after es).music channel }
-        ensures keys { (es : List MidiEvent) → Stands self.now es
+        ensures keys { (es : List MidiEvent) → PlayerStands self.now es
             → result.now.keys.items ≡ key_pressures (after es).music.notes channel 0 128 }
-        ensures tuning { (es : List MidiEvent) → Stands self.now es → result.now.tuning
+        ensures tuning { (es : List MidiEvent) → PlayerStands self.now es → result.now.tuning
             ≡ selected_of (after es).tuning channel }
     {
         let state = &self.channels[channel.number() as usize].state;
@@ -75,7 +59,7 @@ impl Receiver {
 
     /// The master of the zone of which a channel is a member.
     pub fn master(&self, channel: Channel) -> Option<Channel>
-        ensures { (es : List MidiEvent) → Stands self.now es → result
+        ensures { (es : List MidiEvent) → PlayerStands self.now es → result
             ≡ master (after es).music.zones channel }
     {
         self.zones.master(channel)

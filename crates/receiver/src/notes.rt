@@ -7,7 +7,7 @@ ghost use Rattle.receiver.specs.Following.{SameSetUp, NotesBecome, SlotsBecome, 
 ghost use Rattle.receiver.specs.Stands.{states_of, selected_in, set_up_of};
 
 use crate::note::Struck;
-use crate::receiver::Receiver;
+use crate::player::Player;
 use crate::role::{Purpose, purpose_of};
 use crate::strokes::channel_at;
 use crate::turn::Turn;
@@ -21,7 +21,7 @@ pub(crate) fn is_down(value: u8) -> bool
 }
 
 // What messages do to the notes that sound.
-impl Receiver {
+impl Player {
     /// A note off.
     pub(crate) fn release(&mut self, channel: Channel, key: u8, tick: u32, velocity: u8)
         requires key { key < 128 }
@@ -60,7 +60,6 @@ impl Receiver {
         ensures selected { selected_in self.new ≡ selected_in self.old }
         ensures zones { self.new.zones ≡ self.old.zones }
         ensures begun { self.new.begun ≡ self.old.begun + 1 }
-        ensures tunings { self.new.tunings ≡ self.old.tunings }
     {
         let voice = self.channels[self.zones.governor(channel) as usize]
             .state

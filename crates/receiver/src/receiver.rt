@@ -1,187 +1,117 @@
-ghost use Rattle.std.specs.Prelude.{◌≡◌, ℕ};
-ghost use Rattle.mt_base.specs.Midi.{view_what};
+ghost use Rattle.std.specs.Prelude.{◌≡◌, ◌<◌, ◌≤◌, ◌↔◌, ◌++◌, ◌+◌, [], ◌∷◌, ℕ, List, IsTrue};
+ghost use Rattle.std.specs.Option.{option_map};
+ghost use Rattle.mt_base.specs.Valid.{IsValidWhat};
+ghost use Rattle.mt_base.specs.Midi.{MidiEvent, view_what};
+ghost use Rattle.midi_model.specs.Zones.{master};
+ghost use Rattle.midi_model.specs.Music.{channel_at, key_pressures};
+ghost use Rattle.midi_model.specs.Receiver.{after};
+ghost use Rattle.midi_model.specs.Tuning.{selected_of};
+ghost use Rattle.receiver.specs.State.{own_of};
+ghost use Rattle.receiver.specs.Heard.{told};
+ghost use Rattle.receiver.specs.Sounding.{sounding_at, played_at};
+ghost use Rattle.receiver.specs.Stands.{Stands, HasRoom, TellsEnded, AreFew, player_of, begun_in};
 
 use crate::ends::Ends;
-use crate::playing::Playing;
-use crate::strokes::{channel_number, struck_by};
+use crate::note::Note;
+use crate::pitch::by_program;
+use crate::player::Player;
+use crate::state::ChannelState;
 use crate::tunings::Tunings;
-use crate::zones::ZoneSizes;
-use midi_model::receiver_laws;
-use mt_base::{Msg, What};
-use mts_msg::{is_reset, read_tuning};
+use mt_base::{Channel, Grain, What};
 
-/// A receiver of MIDI events: sixteen channels, the notes that sound on them, the zones of MIDI
-/// Polyphonic Expression and the tuning programs.
+/// A receiver of MIDI events, in two parts: the music, and the tuning programs. Only the pitch that
+/// is played joins the two.
 #[derive(Drop)]
 pub struct Receiver {
-    pub(crate) channels: [Playing; 16],
-    pub(crate) zones: ZoneSizes,
-    /// How many notes began.
-    pub(crate) begun: u32,
+    pub(crate) player: Player,
     pub(crate) tunings: Tunings,
 }
 
-// What an event does, as a whole.
 impl Receiver {
-    ghost use Rattle.std.specs.Prelude.{◌<◌, ◌≤◌, ◌↔◌, ◌++◌, ◌+◌, [], ◌∷◌, List, None, ◌&&◌, ◌||◌, not, is_some, replicate, slice_index, IsTrue};
-    ghost use Rattle.mt_base.specs.Valid.{IsValidMsg, IsValidWhat};
-    ghost use Rattle.mt_base.specs.Midi.{MidiEvent, Says, SysexOf};
-    ghost use Rattle.midi_model.specs.Channel.{default_channel};
-    ghost use Rattle.midi_model.specs.Zones.{no_zones};
-    ghost use Rattle.midi_model.specs.Sysex.{Plays, doing};
-    ghost use Rattle.midi_model.specs.Receiver.{after};
-    ghost use Rattle.receiver.specs.Notes.{has};
-    ghost use Rattle.receiver.specs.Turns.{strikes};
-    ghost use Rattle.receiver.specs.Tunings.{value_in};
-    ghost use Rattle.receiver.specs.Zones.{zones_in};
-    ghost use Rattle.receiver.specs.Following.{FollowsBy, NothingSounds};
-    ghost use Rattle.receiver.specs.Stands.{Stands, HasRoom, TellsEnded, states_of, selected_in, slot, begun_in, AreFew};
-
     /// A receiver before any event: all channels have their defaults, and nothing sounds.
     pub fn new() -> Receiver
         ensures stands { Stands result [] }
-        ensures begun { begun_in result ≡ 0 }
+        ensures begun { begun_in (player_of result) ≡ 0 }
     {
         Receiver {
-            channels: [
-                Playing::new(),
-                Playing::new(),
-                Playing::new(),
-                Playing::new(),
-                Playing::new(),
-                Playing::new(),
-                Playing::new(),
-                Playing::new(),
-                Playing::new(),
-                Playing::new(),
-                Playing::new(),
-                Playing::new(),
-                Playing::new(),
-                Playing::new(),
-                Playing::new(),
-                Playing::new(),
-            ],
-            zones: ZoneSizes { lower: 0, upper: 0 },
-            begun: 0,
+            player: Player::new(),
             tunings: Tunings::new(),
         }
-    }
-
-    /// A reset: all is as before any event, but that notes began.
-    fn reset(&mut self)
-        ensures notes { NothingSounds self.new }
-        ensures states { states_of self.new ≡ replicate 16 default_channel }
-        ensures selected { selected_in self.new ≡ replicate 16 None }
-        ensures zones { zones_in self.new.zones ≡ no_zones }
-        ensures begun { self.new.begun ≡ self.old.begun }
-        ensures tunings { (p k : ℕ) → value_in self.new.tunings p k ≡ None }
-    {
-        for channel in 0..16 {
-            self.channels[channel].reset();
-        }
-        self.zones = ZoneSizes { lower: 0, upper: 0 };
-        self.tunings.clear();
-    }
-
-    /// A message: what it does, and then the notes end that nothing holds.
-    fn play(&mut self, tick: u32, message: &Msg)
-        requires valid { IsValidMsg message.now }
-        requires room { HasRoom self.old (Says message.now) }
-        requires few { self.old.begun < 4294967295 }
-        ensures { FollowsBy self.old tick (Plays message.now) self.new }
-    {
-        self.act(tick, message);
-        self.settle();
-    }
-
-    /// A system exclusive message by its bytes after F0: a reset, a tuning, or nothing.
-    fn system(&mut self, bytes: &[u8])
-        ensures { (tick : ℕ) → FollowsBy self.old tick (doing (SysexOf 240 bytes.now)) self.new }
-    {
-        if is_reset(bytes) {
-            self.reset();
-        } else if let Some(tuning) = read_tuning(bytes) {
-            self.tunings.take(&tuning);
-        }
-    }
-
-    /// What an event does.
-    fn follow(&mut self, tick: u32, what: &What<'_>)
-        requires valid { IsValidWhat (view_what what.now) }
-        requires room { HasRoom self.old (view_what what.now) }
-        requires few { self.old.begun < 4294967295 }
-        ensures { FollowsBy self.old tick (doing (view_what what.now)) self.new }
-    {
-        match *what {
-            What::Message(ref message) => self.play(tick, message),
-            What::Sysex { lead, bytes } => {
-                if lead == 0xf0 {
-                    self.system(bytes);
-                }
-            }
-            What::Meta { .. } => {}
-        }
-    }
-
-    /// The keys of each channel on which a note sounds.
-    fn sounding_keys(&self) -> [u128; 16]
-        ensures { (c k : ℕ) → c < 16 → k < 128 → has (slice_index result c) k
-            ≡ is_some (slot self.now c k) }
-    {
-        let mut keys = [0; 16];
-        for channel in 0..16 {
-            keys[channel] = self.channels[channel].keys.sounding();
-        }
-        keys
-    }
-
-    /// The keys whose notes ended: those that sounded before, and don't now or were struck again.
-    fn ended(&self, before: [u128; 16], what: &What<'_>) -> Ends
-        requires { IsValidWhat (view_what what.now) }
-        ensures { (c k : ℕ) → c < 16 → k < 128 → has (slice_index result.keys c) k
-            ≡ (has (slice_index before c) k
-            && (strikes (doing (view_what what.now)) c k || not (is_some (slot self.now c k)))) }
-    {
-        let now = self.sounding_keys();
-        let mut keys = [0; 16];
-        for channel in 0..16 {
-            keys[channel] = before[channel] & (!now[channel] | struck_by(what, channel as u8));
-        }
-        Ends { keys }
     }
 
     /// Whether an event leaves each channel with at most 16 parameters that count.
     pub fn room(&self, what: &What<'_>) -> bool
         requires valid { IsValidWhat (view_what what.now) }
-        ensures own { IsTrue result ↔ HasRoom self.now (view_what what.now) }
+        ensures own { IsTrue result ↔ HasRoom (player_of self.now) (view_what what.now) }
         ensures all { (es : List MidiEvent) (e : MidiEvent)
             → Stands self.now es → e.what ≡ view_what what.now
             → IsTrue result ↔ AreFew (after (es ++ e ∷ [])).music }
     {
-        match *what {
-            What::Message(ref message) => self.channels[channel_number(message) as usize].room(
-                message,
-            ),
-            What::Sysex { .. } | What::Meta { .. } => true,
-        }
+        self.player.room(what)
     }
 
     /// Takes an event at its tick, and tells which notes ended by it. The event has room, and fewer
     /// than 4,294,967,295 notes began before it.
     pub fn step(&mut self, tick: u32, what: &What<'_>) -> Ends
         requires valid { IsValidWhat (view_what what.now) }
-        requires room { HasRoom self.old (view_what what.now) }
-        requires few { begun_in self.old < 4294967295 }
+        requires room { HasRoom (player_of self.old) (view_what what.now) }
+        requires few { begun_in (player_of self.old) < 4294967295 }
         ensures stands { (es : List MidiEvent) (e : MidiEvent) → Stands self.old es
             → e.tick ≡ tick → e.what ≡ view_what what.now → Stands self.new (es ++ e ∷ []) }
         ensures ends { (es : List MidiEvent) (e : MidiEvent) → Stands self.old es
             → e.tick ≡ tick → e.what ≡ view_what what.now
             → TellsEnded result (after es).music.notes (after (es ++ e ∷ [])).music.notes }
-        ensures begun { begun_in self.new ≤ begun_in self.old + 1 }
+        ensures begun { begun_in (player_of self.new) ≤ begun_in (player_of self.old) + 1 }
     {
-        receiver_laws();
-        let before = self.sounding_keys();
-        self.follow(tick, what);
-        self.ended(before, what)
+        let ends = self.player.step(tick, what);
+        self.tunings.hear(what);
+        ends
+    }
+
+    /// The note that sounds on a key, 0 to 127.
+    pub fn sounding(&self, channel: Channel, key: u8) -> Option<Note>
+        requires { key ≤ 127 }
+        ensures { (es : List MidiEvent) → Stands self.now es
+            → result ≡ option_map told (sounding_at (after es).music.notes channel key) }
+    {
+        self.player.sounding(channel, key)
+    }
+
+    /// The pitch of the note that sounds on a key, 0 to 127, in grains above key 0.
+    pub fn played(&self, channel: Channel, key: u8) -> Option<Grain>
+        requires { key ≤ 127 }
+        ensures { (es : List MidiEvent) → Stands self.now es
+            → option_map (λ g. g.0) result ≡ played_at (after es) channel key }
+    {
+        let player = &self.player;
+        if !player.channels[channel.number() as usize]
+            .keys
+            .is_sounding(key)
+        {
+            return None;
+        }
+        let governor = &player.channels[player.zones.governor(channel) as usize].state;
+        let tuned = by_program(&self.tunings, governor.tuning, key);
+        Some(Grain(tuned + governor.fine() + governor.coarse() + player.bends(channel)))
+    }
+
+    /// The state of a channel, with the pressures of its keys and its tuning program.
+    pub fn state(&self, channel: Channel) -> &ChannelState
+        ensures own { (es : List MidiEvent) → Stands self.now es → own_of result.now
+            ≡ channel_at (after es).music channel }
+        ensures keys { (es : List MidiEvent) → Stands self.now es
+            → result.now.keys.items ≡ key_pressures (after es).music.notes channel 0 128 }
+        ensures tuning { (es : List MidiEvent) → Stands self.now es → result.now.tuning
+            ≡ selected_of (after es).tuning channel }
+    {
+        self.player.state(channel)
+    }
+
+    /// The master of the zone of which a channel is a member.
+    pub fn master(&self, channel: Channel) -> Option<Channel>
+        ensures { (es : List MidiEvent) → Stands self.now es → result
+            ≡ master (after es).music.zones channel }
+    {
+        self.player.master(channel)
     }
 }

@@ -2,8 +2,8 @@ ghost use Rattle.std.specs.Prelude.{◌≡◌, ◌≤◌};
 ghost use Rattle.mt_base.specs.declared.event.Msg.TheVariants.{Control};
 
 mod cases;
+mod listener;
 mod note_cases;
-mod player;
 mod random;
 mod slow;
 mod tuned;

@@ -1,6 +1,7 @@
 ghost use Rattle.std.specs.Prelude.{◌≡◌, ◌<◌, ◌≤◌, ℕ, None, replicate, false, nat_eq, ◌&&◌, if◌then◌else◌};
 
-use mts_msg::Tuning;
+use mt_base::What;
+use mts_msg::{Tuning, is_reset, read_tuning};
 
 /// The tuning programs: by 128 * program + key the value of the key, in steps of 1/16384 semitone
 /// above key 0.
@@ -14,10 +15,12 @@ pub(crate) struct Tunings {
 
 impl Tunings {
     ghost use Rattle.std.specs.List.{AllByRecursion};
+    ghost use Rattle.mt_base.specs.Midi.{SysexOf, view_what};
+    ghost use Rattle.midi_model.specs.Sysex.{doing};
     ghost use Rattle.midi_model.specs.Tuning.{renew};
     ghost use Rattle.midi_model.specs.TuningBytes.{numbered};
     ghost use Rattle.mts_msg.specs.Readings.{retune_of, IsInRange};
-    ghost use Rattle.receiver.specs.Tunings.{value_in, Retunes};
+    ghost use Rattle.receiver.specs.Tunings.{value_in, Retunes, HearsBy};
 
     /// No program holds a value.
     pub fn new() -> Tunings
@@ -74,7 +77,7 @@ impl Tunings {
     }
 
     /// A tuning message.
-    pub fn take(&mut self, tuning: &Tuning)
+    fn take(&mut self, tuning: &Tuning)
         requires { IsInRange (retune_of tuning.now) }
         ensures { Retunes (retune_of tuning.now).program (retune_of tuning.now).keys
             self.old self.new }
@@ -86,12 +89,37 @@ impl Tunings {
     }
 
     /// No program holds a value any more.
-    pub fn clear(&mut self)
+    fn clear(&mut self)
         ensures { (p k : ℕ) → value_in self.new p k ≡ None }
     {
         if self.is_set {
             self.values = [None; 16384];
             self.is_set = false;
+        }
+    }
+
+    /// A system exclusive message by its bytes after F0: a reset, a tuning, or nothing.
+    fn system(&mut self, bytes: &[u8])
+        ensures { HearsBy (doing (SysexOf 240 bytes.now)) self.old self.new }
+    {
+        if is_reset(bytes) {
+            self.clear();
+        } else if let Some(tuning) = read_tuning(bytes) {
+            self.take(&tuning);
+        }
+    }
+
+    /// What an event does.
+    pub fn hear(&mut self, what: &What<'_>)
+        ensures { HearsBy (doing (view_what what.now)) self.old self.new }
+    {
+        match *what {
+            What::Sysex { lead, bytes } => {
+                if lead == 0xf0 {
+                    self.system(bytes);
+                }
+            }
+            What::Message(_) | What::Meta { .. } => {}
         }
     }
 }

@@ -1,7 +1,7 @@
 ghost use Rattle.std.specs.Prelude.{◌≤◌, IsTrue};
 ghost use Rattle.mt_base.specs.Midi.{view_what};
 ghost use Rattle.mt_base.specs.Valid.{IsValidWhat};
-ghost use Rattle.receiver.specs.Stands.{begun_in};
+ghost use Rattle.receiver.specs.Stands.{begun_in, player_of};
 
 use crate::{bring, bring_length, bring_length_within};
 use Said::{Bend, Control, On, Pressure, Program, Touch};
@@ -71,7 +71,7 @@ fn is_valid(what: &What<'_>) -> bool
 struct Player {
     receiver: Receiver,
     taken: u32,
-    ghost few: { begun_in receiver ≤ taken },
+    ghost few: { begun_in (player_of receiver) ≤ taken },
 }
 
 impl Player {

@@ -1,5 +1,5 @@
+use super::listener::{Listener, Said, what_of};
 use super::note_cases::NOTES;
-use super::player::{Player, Said, what_of};
 use super::zone_cases::ZONES;
 use crate::{Ends, Receiver};
 use mt_base::Channel;
@@ -142,10 +142,10 @@ fn holds(receiver: &Receiver, fact: Fact) -> bool {
 }
 
 /// Takes the event of a turn, and tells whether it ends what it should.
-fn plays(player: &mut Player, turn: &Turn) -> bool {
+fn plays(listener: &mut Listener, turn: &Turn) -> bool {
     match what_of(turn.1) {
         None => false,
-        Some(what) => match player.take(turn.0, &what) {
+        Some(what) => match listener.take(turn.0, &what) {
             None => false,
             Some(ends) => are_ends(&ends, turn.2),
         },
@@ -154,26 +154,26 @@ fn plays(player: &mut Player, turn: &Turn) -> bool {
 
 fn check(rt: &impl Abort, cases: &[Case]) {
     for case in cases {
-        let mut player = Player::new();
+        let mut listener = Listener::new();
         for turn in case.turns {
-            assert!(rt; plays(&mut player, turn), "{}: {:?}", case.name, turn.1);
+            assert!(rt; plays(&mut listener, turn), "{}: {:?}", case.name, turn.1);
         }
         assert_eq!(rt;
-            count_of(&player.receiver),
+            count_of(&listener.receiver),
             case.sounding.len(),
             "{}",
             case.name
         );
         for sounds in case.sounding {
             assert!(rt;
-                does_sound(&player.receiver, sounds),
+                does_sound(&listener.receiver, sounds),
                 "{}: {:?}",
                 case.name,
                 sounds.0
             );
         }
         for fact in case.found {
-            assert!(rt; holds(&player.receiver, *fact), "{}: {fact:?}", case.name);
+            assert!(rt; holds(&listener.receiver, *fact), "{}: {fact:?}", case.name);
         }
     }
 }

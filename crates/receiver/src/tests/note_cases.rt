@@ -1,6 +1,6 @@
 // Lists of events on channels without zones, and what holds after each.
 use super::cases::{Case, Fact};
-use super::player::Said::{Bend, Control, Off, On, Pressure, Program, System, Touch};
+use super::listener::Said::{Bend, Control, Off, On, Pressure, Program, System, Touch};
 
 const GENERAL_MIDI_ON: &[u8] = &[0x7e, 0x7f, 0x09, 0x01, 0xf7];
 

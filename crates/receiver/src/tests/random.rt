@@ -1,6 +1,6 @@
 ghost use Rattle.std.specs.Prelude.{◌<◌};
 
-use super::player::{Player, Said, what_of};
+use super::listener::{Listener, Said, what_of};
 use super::slow::{Part, Slow, SlowNote};
 use crate::{Note, Receiver};
 use mt_base::Channel;
@@ -204,18 +204,23 @@ fn are_set_the_same(receiver: &Receiver, slow: &Slow) -> bool {
 }
 
 /// Plays one event on both, and tells whether they agree in what ends, what sounds and what is set.
-fn play_alike(player: &mut Player, slow: &mut Slow, tick: u32, said: Said) -> Result<bool, Fail> {
+fn play_alike(
+    listener: &mut Listener,
+    slow: &mut Slow,
+    tick: u32,
+    said: Said,
+) -> Result<bool, Fail> {
     let Some(what) = what_of(said) else {
         return Ok(false);
     };
-    let Some(ends) = player.take(tick, &what) else {
+    let Some(ends) = listener.take(tick, &what) else {
         return Ok(false);
     };
     slow.step(tick, &what)?;
     Ok(
         ends.keys == slow.ends()
-            && sound_the_same(&player.receiver, slow)
-            && are_set_the_same(&player.receiver, slow),
+            && sound_the_same(&listener.receiver, slow)
+            && are_set_the_same(&listener.receiver, slow),
     )
 }
 
@@ -223,13 +228,13 @@ fn play_alike(player: &mut Player, slow: &mut Slow, tick: u32, said: Said) -> Re
 fn lists_are_played_as_by_a_receiver_that_looks_at_every_note(rt: HostRuntime) -> Result<(), Fail> {
     for list in 0..10u64 {
         let mut dice = Dice { state: list };
-        let mut player = Player::new();
+        let mut listener = Listener::new();
         let mut slow = Slow::new(rt.alloc());
         let mut tick = 0u32;
         for event in 0..2_000u32 {
             tick = tick.wrapping_add(dice.roll(3) as u32);
             let said = dice.event();
-            let is_alike = play_alike(&mut player, &mut slow, tick, said)?;
+            let is_alike = play_alike(&mut listener, &mut slow, tick, said)?;
             assert!(rt; is_alike, "list {list}, event {event}: {said:?}");
         }
     }

@@ -1,14 +1,14 @@
 ghost use Rattle.std.specs.Prelude.{◌≤◌};
 
-use super::player::{Player, Said, what_of};
+use super::listener::{Listener, Said, what_of};
 use mt_base::{Channel, Grain, What};
 use mts_msg::{dump, note_change};
 
 /// Takes events at tick 0, and tells whether each could be taken.
-fn take_all(player: &mut Player, list: &[Said]) -> bool {
+fn take_all(listener: &mut Listener, list: &[Said]) -> bool {
     for said in list {
         let is_taken = match what_of(*said) {
-            Some(what) => player.take(0, &what).is_some(),
+            Some(what) => listener.take(0, &what).is_some(),
             None => false,
         };
         if !is_taken {
@@ -19,17 +19,19 @@ fn take_all(player: &mut Player, list: &[Said]) -> bool {
 }
 
 /// Takes a system exclusive event.
-fn take_system(player: &mut Player, bytes: &[u8]) -> bool {
-    player.take(0, &What::Sysex { lead: 0xf0, bytes }).is_some()
+fn take_system(listener: &mut Listener, bytes: &[u8]) -> bool {
+    listener
+        .take(0, &What::Sysex { lead: 0xf0, bytes })
+        .is_some()
 }
 
 /// The pitch of a key, in grains.
-fn pitch(player: &Player, channel: u8, key: u8) -> Option<i128> {
+fn pitch(listener: &Listener, channel: u8, key: u8) -> Option<i128> {
     let channel = Channel::new(channel)?;
     if key > 127 {
         return None;
     }
-    match player.receiver.played(channel, key) {
+    match listener.receiver.played(channel, key) {
         Some(Grain(grains)) => Some(grains),
         None => None,
     }
@@ -50,65 +52,70 @@ const STEP: i128 = 390_625_000;
 #[test]
 fn a_note_plays_its_tuning_with_all_bends(rt: HostRuntime) {
     use Said::{Bend, Control, Off, On, System};
-    let mut player = Player::new();
-    assert_eq!(rt; pitch(&player, 0, 69), None);
-    assert!(rt; take_all(&mut player, &[On(0, 69, 64), On(0, 81, 64), On(1, 60, 64)]));
-    assert_eq!(rt; pitch(&player, 0, 69), Some(A));
-    assert_eq!(rt; pitch(&player, 0, 81), Some(HIGH_A));
-    assert_eq!(rt; pitch(&player, 0, 70), None);
+    let mut listener = Listener::new();
+    assert_eq!(rt; pitch(&listener, 0, 69), None);
+    assert!(rt;
+        take_all(
+            &mut listener,
+            &[On(0, 69, 64), On(0, 81, 64), On(1, 60, 64)]
+        )
+    );
+    assert_eq!(rt; pitch(&listener, 0, 69), Some(A));
+    assert_eq!(rt; pitch(&listener, 0, 81), Some(HIGH_A));
+    assert_eq!(rt; pitch(&listener, 0, 70), None);
     // a dump of key 69 alone, a quarter of a semitone high, to program 5, and a change of key 60 in
     // it
     let mut values = [None; 128];
     values[69] = Some(69 * 16384 + 4096);
     let bytes = dump(5, &values);
-    assert!(rt; take_system(&mut player, bytes.as_slice()));
-    assert_eq!(rt; pitch(&player, 0, 69), Some(A));
+    assert!(rt; take_system(&mut listener, bytes.as_slice()));
+    assert_eq!(rt; pitch(&listener, 0, 69), Some(A));
     assert!(rt;
         take_all(
-            &mut player,
+            &mut listener,
             &[Control(0, 101, 0), Control(0, 100, 3), Control(0, 6, 5)]
         )
     );
-    assert_eq!(rt; pitch(&player, 0, 69), Some(A + SEMITONE / 4));
-    assert_eq!(rt; pitch(&player, 0, 81), Some(HIGH_A));
-    assert_eq!(rt; pitch(&player, 1, 60), Some(C));
+    assert_eq!(rt; pitch(&listener, 0, 69), Some(A + SEMITONE / 4));
+    assert_eq!(rt; pitch(&listener, 0, 81), Some(HIGH_A));
+    assert_eq!(rt; pitch(&listener, 1, 60), Some(C));
     let bytes = note_change(5, 69, 70 * 16384);
-    assert!(rt; take_system(&mut player, bytes.as_slice()));
-    assert_eq!(rt; pitch(&player, 0, 69), Some(A + SEMITONE));
+    assert!(rt; take_system(&mut listener, bytes.as_slice()));
+    assert_eq!(rt; pitch(&listener, 0, 69), Some(A + SEMITONE));
     let bytes = note_change(4, 69, 0);
-    assert!(rt; take_system(&mut player, bytes.as_slice()));
-    assert_eq!(rt; pitch(&player, 0, 69), Some(A + SEMITONE));
+    assert!(rt; take_system(&mut listener, bytes.as_slice()));
+    assert_eq!(rt; pitch(&listener, 0, 69), Some(A + SEMITONE));
     // fine tuning 65, 1: 129 steps up; coarse tuning 63: a semitone down
     assert!(rt;
         take_all(
-            &mut player,
+            &mut listener,
             &[Control(0, 100, 1), Control(0, 6, 65), Control(0, 38, 1)]
         )
     );
-    assert_eq!(rt; pitch(&player, 0, 69), Some(A + SEMITONE + 129 * STEP));
-    assert!(rt; take_all(&mut player, &[Control(0, 100, 2), Control(0, 6, 63)]));
-    assert_eq!(rt; pitch(&player, 0, 69), Some(A + 129 * STEP));
+    assert_eq!(rt; pitch(&listener, 0, 69), Some(A + SEMITONE + 129 * STEP));
+    assert!(rt; take_all(&mut listener, &[Control(0, 100, 2), Control(0, 6, 63)]));
+    assert_eq!(rt; pitch(&listener, 0, 69), Some(A + 129 * STEP));
     // the wheel down by half at a range of 2 semitones, then of 1.5
-    assert!(rt; take_all(&mut player, &[Bend(0, 4096)]));
-    assert_eq!(rt; pitch(&player, 0, 69), Some(A + 129 * STEP - SEMITONE));
+    assert!(rt; take_all(&mut listener, &[Bend(0, 4096)]));
+    assert_eq!(rt; pitch(&listener, 0, 69), Some(A + 129 * STEP - SEMITONE));
     assert!(rt;
         take_all(
-            &mut player,
+            &mut listener,
             &[Control(0, 100, 0), Control(0, 6, 1), Control(0, 38, 50)]
         )
     );
     assert_eq!(rt;
-        pitch(&player, 0, 69),
+        pitch(&listener, 0, 69),
         Some(A + 129 * STEP - SEMITONE * 3 / 4)
     );
-    assert_eq!(rt; pitch(&player, 1, 60), Some(C));
+    assert_eq!(rt; pitch(&listener, 1, 60), Some(C));
     // a reset forgets the tunings
     let reset: &[u8] = &[0x7e, 0x7f, 0x09, 0x01, 0xf7];
-    assert!(rt; take_system(&mut player, reset));
-    assert_eq!(rt; pitch(&player, 0, 69), None);
+    assert!(rt; take_system(&mut listener, reset));
+    assert_eq!(rt; pitch(&listener, 0, 69), None);
     assert!(rt;
         take_all(
-            &mut player,
+            &mut listener,
             &[
                 On(0, 69, 64),
                 Control(0, 101, 0),
@@ -117,15 +124,15 @@ fn a_note_plays_its_tuning_with_all_bends(rt: HostRuntime) {
             ]
         )
     );
-    assert_eq!(rt; pitch(&player, 0, 69), Some(A));
-    assert!(rt; take_all(&mut player, &[Off(0, 69, 64), System(0xf0, &[0x00])]));
-    assert_eq!(rt; pitch(&player, 0, 69), None);
+    assert_eq!(rt; pitch(&listener, 0, 69), Some(A));
+    assert!(rt; take_all(&mut listener, &[Off(0, 69, 64), System(0xf0, &[0x00])]));
+    assert_eq!(rt; pitch(&listener, 0, 69), None);
 }
 
 #[test]
 fn a_member_has_its_masters_tuning_and_both_bends(rt: HostRuntime) {
     use Said::{Bend, Control, On};
-    let mut player = Player::new();
+    let mut listener = Listener::new();
     let set_up = [
         // a zone of three members: 2 semitones on the master, 48 on a member
         Control(0, 101, 0),
@@ -144,34 +151,34 @@ fn a_member_has_its_masters_tuning_and_both_bends(rt: HostRuntime) {
         On(1, 69, 64),
         On(0, 69, 64),
     ];
-    assert!(rt; take_all(&mut player, &set_up));
-    assert_eq!(rt; pitch(&player, 1, 69), Some(A + STEP));
+    assert!(rt; take_all(&mut listener, &set_up));
+    assert_eq!(rt; pitch(&listener, 1, 69), Some(A + STEP));
     let bytes = note_change(9, 69, 0);
-    assert!(rt; take_system(&mut player, bytes.as_slice()));
-    assert_eq!(rt; pitch(&player, 1, 69), Some(A + STEP));
+    assert!(rt; take_system(&mut listener, bytes.as_slice()));
+    assert_eq!(rt; pitch(&listener, 1, 69), Some(A + STEP));
     let bytes = note_change(7, 69, 70 * 16384);
-    assert!(rt; take_system(&mut player, bytes.as_slice()));
-    assert_eq!(rt; pitch(&player, 1, 69), Some(A + SEMITONE + STEP));
+    assert!(rt; take_system(&mut listener, bytes.as_slice()));
+    assert_eq!(rt; pitch(&listener, 1, 69), Some(A + SEMITONE + STEP));
     // ten steps of the member's wheel are 480 steps of a semitone each, a hundred of the master's
     // 200
-    assert!(rt; take_all(&mut player, &[Bend(1, 8202), Bend(0, 8292)]));
+    assert!(rt; take_all(&mut listener, &[Bend(1, 8202), Bend(0, 8292)]));
     assert_eq!(rt;
-        pitch(&player, 1, 69),
+        pitch(&listener, 1, 69),
         Some(A + SEMITONE + STEP + 480 * STEP + 200 * STEP)
     );
     assert_eq!(rt;
-        pitch(&player, 0, 69),
+        pitch(&listener, 0, 69),
         Some(A + SEMITONE + STEP + 200 * STEP)
     );
     // without the zone the member has what is its own
-    assert!(rt; take_all(&mut player, &[Control(0, 100, 6), Control(0, 6, 0)]));
-    assert_eq!(rt; pitch(&player, 1, 69), Some(SEMITONE + 480 * STEP));
+    assert!(rt; take_all(&mut listener, &[Control(0, 100, 6), Control(0, 6, 0)]));
+    assert_eq!(rt; pitch(&listener, 1, 69), Some(SEMITONE + 480 * STEP));
 }
 
 /// Whether there is room for an event.
-fn has_room(player: &Player, said: Said) -> bool {
+fn has_room(listener: &Listener, said: Said) -> bool {
     match what_of(said) {
-        Some(what) => player.may_take(&what),
+        Some(what) => listener.may_take(&what),
         None => false,
     }
 }
@@ -179,14 +186,14 @@ fn has_room(player: &Player, said: Said) -> bool {
 #[test]
 fn a_seventeenth_parameter_has_no_room(rt: HostRuntime) {
     use Said::{Control, On, System};
-    let mut player = Player::new();
-    assert!(rt; take_all(&mut player, &[Control(0, 99, 1)]));
+    let mut listener = Listener::new();
+    assert!(rt; take_all(&mut listener, &[Control(0, 99, 1)]));
     for low in 0..16u8 {
-        assert!(rt; take_all(&mut player, &[Control(0, 98, low), Control(0, 6, 1)]));
+        assert!(rt; take_all(&mut listener, &[Control(0, 98, low), Control(0, 6, 1)]));
     }
-    assert!(rt; take_all(&mut player, &[Control(0, 98, 16)]));
-    assert!(rt; !has_room(&player, Control(0, 6, 1)));
-    assert!(rt; !has_room(&player, Control(0, 38, 1)));
+    assert!(rt; take_all(&mut listener, &[Control(0, 98, 16)]));
+    assert!(rt; !has_room(&listener, Control(0, 6, 1)));
+    assert!(rt; !has_room(&listener, Control(0, 38, 1)));
     // its default, another channel, and what isn't data entry
     let others = [
         Control(0, 6, 64),
@@ -198,29 +205,29 @@ fn a_seventeenth_parameter_has_no_room(rt: HostRuntime) {
         System(0xf0, &[0x7e, 0x7f, 0x09, 0x01, 0xf7]),
     ];
     for said in others {
-        assert!(rt; has_room(&player, said), "{said:?}");
+        assert!(rt; has_room(&listener, said), "{said:?}");
     }
     // one that is there already, and those that don't count
-    assert!(rt; take_all(&mut player, &[Control(0, 98, 3)]));
-    assert!(rt; has_room(&player, Control(0, 6, 2)));
-    assert!(rt; has_room(&player, Control(0, 38, 2)));
-    assert!(rt; take_all(&mut player, &[Control(0, 101, 0)]));
+    assert!(rt; take_all(&mut listener, &[Control(0, 98, 3)]));
+    assert!(rt; has_room(&listener, Control(0, 6, 2)));
+    assert!(rt; has_room(&listener, Control(0, 38, 2)));
+    assert!(rt; take_all(&mut listener, &[Control(0, 101, 0)]));
     for low in [0, 1, 2, 3, 5, 6] {
         assert!(rt;
             take_all(
-                &mut player,
+                &mut listener,
                 &[Control(0, 100, low), Control(0, 6, 1), Control(0, 38, 1)]
             )
         );
     }
-    assert!(rt; take_all(&mut player, &[Control(0, 100, 4)]));
-    assert!(rt; !has_room(&player, Control(0, 6, 1)));
+    assert!(rt; take_all(&mut listener, &[Control(0, 100, 4)]));
+    assert!(rt; !has_room(&listener, Control(0, 6, 1)));
     // one goes back to its default, and there is room again
     assert!(rt;
         take_all(
-            &mut player,
+            &mut listener,
             &[Control(0, 99, 1), Control(0, 98, 3), Control(0, 6, 64)]
         )
     );
-    assert!(rt; take_all(&mut player, &[Control(0, 98, 16), Control(0, 6, 1)]));
+    assert!(rt; take_all(&mut listener, &[Control(0, 98, 16), Control(0, 6, 1)]));
 }

@@ -1,6 +1,6 @@
 // Lists of events that set zones or select tuning programs, and what holds after each.
 use super::cases::{Case, Fact};
-use super::player::Said::{Bend, Control, Off, On, Program, Touch};
+use super::listener::Said::{Bend, Control, Off, On, Program, Touch};
 
 pub const ZONES: [Case; 7] = [
     Case {

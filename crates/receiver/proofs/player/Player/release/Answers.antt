@@ -1,0 +1,15 @@
+use Rattle.std.proofs.Common.{rules, refl}
+use Rattle.receiver.proofs.Here.{map_same}
+use Rattle.receiver.proofs.Actions.{released}
+use Rattle.receiver.proofs.player.Player.release.Goals as goal
+
+pub returns-clause-notes : goal.returns-clause-notes
+returns-clause-notes c d k dl kl = rw (← c.number.ensures.value) (released _ c.number.result c.args.key c.args.tick c.args.velocity _ c.index-self-number.result (search rules) c.release.ensures.heard d k kl)
+
+pub returns-clause-rest : goal.returns-clause-rest
+returns-clause-rest c = record {
+  states = map_same _ _ c.number.result _ c.index-self-number.result c.release.ensures.state.own;
+  selected = map_same _ _ c.number.result _ c.index-self-number.result c.release.ensures.state.tuning;
+  zones = refl;
+  begun = refl;
+}

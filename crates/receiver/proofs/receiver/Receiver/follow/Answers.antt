@@ -1,4 +1,0 @@
-use Rattle.receiver.proofs.receiver.Receiver.follow.Goals as goal
-
-pub returns-then-lead : goal.returns-then-lead
-returns-then-lead c = rw (c.in-Sysex.is, c.if-lead.true) (c.system.ensures c.args.tick)

@@ -1,0 +1,4 @@
+use Rattle.receiver.proofs.tunings.Tunings.hear.Goals as goal
+
+pub returns-then-lead : goal.returns-then-lead
+returns-then-lead c = rw (c.in-Sysex.is, c.if-lead.true) c.system.ensures
