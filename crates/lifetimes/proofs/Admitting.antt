@@ -5,7 +5,7 @@ use Rattle.mt_base.specs.Midi.{MidiEvent}
 use Rattle.retune_model.specs.Options.{Options}
 use Rattle.retune_model.specs.Faults.{Targets}
 use Rattle.retune_model.specs.Rests.{is_within_tail}
-use Rattle.receiver.specs.Stands as receiver
+use Rattle.receiver.specs.Stands.{PlayerStands}
 use Rattle.lifetimes.specs.Lists.{ListsSounding, struck_at}
 use Rattle.lifetimes.specs.Resting.{end_kept}
 use Rattle.lifetimes.specs.Port.{struck_in, listed_in, rests_in}
@@ -17,7 +17,7 @@ use Rattle.lifetimes.proofs.Taking.{StruckFor, RestsFor}
 -- it keeps the same
 pub record IsAlike (old new : Port) : Type 0 where
   pub number : new.number ≡ old.number
-  pub receiver : new.receiver ≡ old.receiver
+  pub player : new.player ≡ old.player
   pub struck : (c : ℕ) → c < 16 → struck_in new c ≡ struck_in old c
   pub listed : (c : ℕ) → c < 16 → listed_in new c ≡ listed_in old c
   pub rests : (c : ℕ) (q : ℤ) → c < 16 → end_kept (rests_in new c) q ≡ end_kept (rests_in old c) q
@@ -25,8 +25,8 @@ pub record IsAlike (old new : Port) : Type 0 where
 pub stands_alike : (o : Options) (table : Targets) (es : List MidiEvent) (old new : Port) → IsAlike old new → PortStands o table es old
     → PortStands o table es new
 stands_alike o table es old new h s = record {
-  receiver = subst (λ r. receiver.Stands r (heard_on o new.number es)) (sym h.receiver)
-      (subst (λ z. receiver.Stands old.receiver (heard_on o z es)) (sym h.number) s.receiver);
+  player = subst (λ r. PlayerStands r (heard_on o new.number es)) (sym h.player)
+      (subst (λ z. PlayerStands old.player (heard_on o z es)) (sym h.number) s.player);
   struck =
       λ c k x low below part is. ap (λ ss. struck_at ss k) (h.struck c low)
       ∙ subst (StruckFor o table es old) (sym h.number) s.struck c k x low below part is;

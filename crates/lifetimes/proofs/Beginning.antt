@@ -106,10 +106,10 @@ module _ (p key n : ℕ) (target : Aim) (old new : Port) (x y : Notes) (lo : len
       (ap (λ rs. is_placed rs (entry_of key target).steps) (sym (part_rests old p x lo low)) ∙ place some)
       (placed_at old.parts p x (k some) within))
 
-  pub begins : new.number ≡ old.number → new.receiver ≡ old.receiver → Begins (Some s) n old new
-  begins number receiver = record {
+  pub begins : new.number ≡ old.number → new.player ≡ old.player → Begins (Some s) n old new
+  begins number player = record {
     number = number;
-    receiver = receiver;
+    player = player;
     many = ap length is ∙ length-set old.parts p y;
     struck = struck_then;
     listed = listed_then;

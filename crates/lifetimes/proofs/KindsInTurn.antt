@@ -108,7 +108,7 @@ pub room_due : EventsSettle → MusicAtAPosition → OnlyZoneEntriesAskForZones 
     → (o : Options) (table : Targets) (es : List MidiEvent) (e : MidiEvent) (z : ℕ) (port : Kept) (msg : Msg)
     → IsNext o table es e z port → e.what ≡ Says msg → is_part o (channel_of msg) ≡ true
     → first_that (take 8 (tests_of o table es e z msg)) ≡ None
-    → (room : Bool) → (IsTrue room ↔ HasRoom port.receiver (Says msg)) → (b : Bool) → room ≡ b
+    → (room : Bool) → (IsTrue room ↔ HasRoom port.player (Says msg)) → (b : Bool) → room ≡ b
     → has_too_many o (music_at (of_port z (es ++ e ∷ [])) (suc (length es))) msg ≡ not b
 room_due settled music zones apart o table es e z port msg next is part none room says b told =
     let c : ℕ = channel_of msg in
@@ -116,10 +116,10 @@ room_due settled music zones apart o table es e z port msg next is part none roo
     ap (λ x. x && nat_lt 16 (counted (channel_at after c))) part
     ∙ (ap (λ s. nat_lt 16 (counted s))
     (channel_then settled music zones o table es e z port msg next is none ∙ ap (λ s. apply s msg) (sym heard))
-    ∙ pick (counted (apply (get_or (states_of port.receiver) c default_channel) msg)) b says told)
+    ∙ pick (counted (apply (get_or (states_of port.player) c default_channel) msg)) b says told)
   where
-    heard : get_or (states_of port.receiver) (channel_of msg) default_channel ≡ channel_at (music_on z es) (channel_of msg)
-    heard = ap (λ ss. get_or ss (channel_of msg) default_channel) next.stands.receiver.channels
+    heard : get_or (states_of port.player) (channel_of msg) default_channel ≡ channel_at (music_on z es) (channel_of msg)
+    heard = ap (λ ss. get_or ss (channel_of msg) default_channel) next.stands.player.channels
         ∙ heard_channel apart o z es (channel_of msg) part
 
     pick : (n : ℕ) (b : Bool) → (IsTrue room ↔ (n ≤ 16)) → room ≡ b → nat_lt 16 n ≡ not b

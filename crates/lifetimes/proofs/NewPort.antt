@@ -5,7 +5,7 @@ use Rattle.std.proofs.lemmas.Bool.{and_from}
 use Rattle.retune_model.specs.Options.{Options}
 use Rattle.retune_model.specs.Faults.{Targets, is_part}
 use Rattle.retune_model.specs.Rests.{is_within_tail}
-use Rattle.receiver.specs.Stands as receiver
+use Rattle.receiver.specs.Stands.{PlayerStands}
 use Rattle.lifetimes.specs.declared.notes.Notes.{Notes}
 use Rattle.lifetimes.specs.declared.port.Port.{Port}
 use Rattle.lifetimes.specs.Lists.{ListsSounding}
@@ -43,9 +43,9 @@ and_false true = refl
 and_false false = refl
 
 pub new_stands : (o : Options) (table : Targets) (port : Port) → port.number ≡ 0 → length port.parts ≡ 16 → AllByRecursion IsQuiet port.parts
-    → receiver.Stands port.receiver [] → PortStands o table [] port
+    → PlayerStands port.player [] → PortStands o table [] port
 new_stands o table port here many q s = record {
-  receiver = subst (λ z. receiver.Stands port.receiver (heard_on o z [])) (sym here) (subst (receiver.Stands port.receiver) (sym (none_heard o)) s);
+  player = subst (λ z. PlayerStands port.player (heard_on o z [])) (sym here) (subst (PlayerStands port.player) (sym (none_heard o)) s);
   struck = λ c k x low below is e. absurd cc;
   listed = λ c low. port_lists port c d _ many low
       (relisted (get_or port.parts c d).struck (get_or port.parts c d).sounding.items _ _ (quiet_at port.parts c d q (omega (arith, low, many))).0

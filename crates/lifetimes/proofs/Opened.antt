@@ -23,7 +23,7 @@ kept_numbered (p ∷ ports) (suc i) z = ap (λ b. all_placed p.parts && b) (kept
 pub counted_numbered : (n : ℕ) (ports : List Port) (i z : ℕ) → all_counted n (numbered_at ports i z) ≡ all_counted n ports
 counted_numbered n [] i z = refl
 counted_numbered n (p ∷ ports) zero z = refl
-counted_numbered n (p ∷ ports) (suc i) z = ap (λ b. nat_le (begun_in p.receiver) n && b) (counted_numbered n ports i z)
+counted_numbered n (p ∷ ports) (suc i) z = ap (λ b. nat_le (begun_in p.player) n && b) (counted_numbered n ports i z)
 
 -- ---- what is always so of all ports, of one of them
 
@@ -40,28 +40,28 @@ kept_set (p ∷ ports) (suc i) new n h =
     and_from (all_placed p.parts) (all_kept (set ports i new)) two.0 (kept_set ports i new n two.1)
 
 pub counted_at : (n : ℕ) (ports : List Port) (i : ℕ) (d : Port) → i < length ports → all_counted n ports ≡ true
-    → begun_in (slice_index_or ports i d).receiver ≤ n
+    → begun_in (slice_index_or ports i d).player ≤ n
 counted_at n [] i d l h = absurd (omega (arith, l))
-counted_at n (p ∷ ports) zero d l h = leb-true (begun_in p.receiver) n (and_parts (nat_le (begun_in p.receiver) n) (all_counted n ports) h).0
+counted_at n (p ∷ ports) zero d l h = leb-true (begun_in p.player) n (and_parts (nat_le (begun_in p.player) n) (all_counted n ports) h).0
 counted_at n (p ∷ ports) (suc i) d l h =
-    counted_at n ports i d (omega (arith, l)) (and_parts (nat_le (begun_in p.receiver) n) (all_counted n ports) h).1
+    counted_at n ports i d (omega (arith, l)) (and_parts (nat_le (begun_in p.player) n) (all_counted n ports) h).1
 
-pub counted_set : (n : ℕ) (ports : List Port) (i : ℕ) (new : Port) → begun_in new.receiver ≤ n → all_counted n ports ≡ true
+pub counted_set : (n : ℕ) (ports : List Port) (i : ℕ) (new : Port) → begun_in new.player ≤ n → all_counted n ports ≡ true
     → all_counted n (set ports i new) ≡ true
 counted_set n [] i new m h = h
 counted_set n (p ∷ ports) zero new m h =
-    and_from (nat_le (begun_in new.receiver) n) (all_counted n ports) (le-leb (begun_in new.receiver) n m)
-    (and_parts (nat_le (begun_in p.receiver) n) (all_counted n ports) h).1
+    and_from (nat_le (begun_in new.player) n) (all_counted n ports) (le-leb (begun_in new.player) n m)
+    (and_parts (nat_le (begun_in p.player) n) (all_counted n ports) h).1
 counted_set n (p ∷ ports) (suc i) new m h =
-    let two = and_parts (nat_le (begun_in p.receiver) n) (all_counted n ports) h in
-    and_from (nat_le (begun_in p.receiver) n) (all_counted n (set ports i new)) two.0 (counted_set n ports i new m two.1)
+    let two = and_parts (nat_le (begun_in p.player) n) (all_counted n ports) h in
+    and_from (nat_le (begun_in p.player) n) (all_counted n (set ports i new)) two.0 (counted_set n ports i new m two.1)
 
 pub counted_more : (n m : ℕ) (ports : List Port) → n ≤ m → all_counted n ports ≡ true → all_counted m ports ≡ true
 counted_more n m [] l h = h
 counted_more n m (p ∷ ports) l h =
-    let two = and_parts (nat_le (begun_in p.receiver) n) (all_counted n ports) h in
-    let low = leb-true (begun_in p.receiver) n two.0 in
-    and_from (nat_le (begun_in p.receiver) m) (all_counted m ports) (le-leb (begun_in p.receiver) m (omega (arith, l, low)))
+    let two = and_parts (nat_le (begun_in p.player) n) (all_counted n ports) h in
+    let low = leb-true (begun_in p.player) n two.0 in
+    and_from (nat_le (begun_in p.player) m) (all_counted m ports) (le-leb (begun_in p.player) m (omega (arith, l, low)))
     (counted_more n m ports l two.1)
 
 -- ---- a port at a place, but for its number

@@ -18,8 +18,8 @@ use Rattle.retune_model.specs.PortLaws.{MusicAtAPosition}
 use Rattle.retune_model.specs.Rests.{past_at, pairs_at, lasts, is_within_tail}
 use Rattle.retune_model.specs.SourceFaults.{is_message, has_port, ports_used, kind_in, IsFine, IsFaultless}
 use Rattle.receiver.specs.Sounding.{sounding_at}
-use Rattle.receiver.specs.Stands as receiver
-use Rattle.receiver.specs.declared.receiver.Receiver.{Receiver as Kept}
+use Rattle.receiver.specs.Stands.{PlayerStands, AreFew}
+use Rattle.receiver.specs.declared.player.Player.{Player}
 use Rattle.lifetimes.specs.Told.{music_on, pair_holds, is_of_pair}
 use Rattle.lifetimes.specs.Stands.{heard_on, sounds_on, latest_of, end_of_pair, pair_on, PortStands}
 use Rattle.lifetimes.specs.declared.port.Port.{Port}
@@ -92,7 +92,7 @@ tune_nothing o table port z ports k (e ∷ es) h = pick (nat_eq (port_of ports e
     )
     pick false h rest = rest h
 
--- ---- what such events leave of a receiver
+-- ---- what such events leave of a player
 
 abbrev IsIdle : MidiEvent → Type 0
 IsIdle e = (is_message e.what ≡ false) × TunesNothing e.what
@@ -136,15 +136,14 @@ idle_too (e ∷ es) h = pick (not (is_drum_message e.what)) (idle_too es h.1)
     pick true rest = (h.0, rest)
     pick false rest = rest
 
-stands_still : (r : Kept) (es : List MidiEvent) → after es ≡ start → receiver.Stands r [] → receiver.Stands r es
-stands_still r es same s = record {
+stands_still : (player : Player) (es : List MidiEvent) → after es ≡ start → PlayerStands player [] → PlayerStands player es
+stands_still player es same s = record {
   channels = s.channels ∙ ap (λ (x : Receiver). x.music.channels) (sym same);
   zones = s.zones ∙ ap (λ (x : Receiver). x.music.zones) (sym same);
   begun = s.begun ∙ ap (λ (x : Receiver). length x.music.notes) (sym same);
   notes = λ c k low below. s.notes c k low below ∙ ap (λ (x : Receiver). sounding_at x.music.notes c k) (sym same);
   selected = s.selected ∙ ap (λ (x : Receiver). x.tuning.selected) (sym same);
-  values = λ p k low below. s.values p k low below ∙ ap (λ (x : Receiver). x.tuning.values p k) (sym same);
-  few = subst (λ (x : Receiver). receiver.AreFew x.music) (sym same) s.few;
+  few = subst (λ (x : Receiver). AreFew x.music) (sym same) s.few;
 }
 
 -- ---- the port
@@ -168,8 +167,8 @@ pub port_opens : MusicAtAPosition → FaultlessPorts → (o : Options) (table : 
     → IsFaultless o table es
     → has_port z (ports_used all_zero [] es) ≡ false → PortStands o table [] port → PortStands o table es (record port { number = z })
 port_opens music fine o table es z port faultless unheard stands = record {
-  receiver = stands_still port.receiver (heard_on o z es) (all_still (heard_on o z es) (heard o.keep_drums))
-      (subst (receiver.Stands port.receiver) (none_heard o.keep_drums) stands.receiver);
+  player = stands_still port.player (heard_on o z es) (all_still (heard_on o z es) (heard o.keep_drums))
+      (subst (PlayerStands port.player) (none_heard o.keep_drums) stands.player);
   struck = λ c k x low below part s. absurd (never c k x s);
   listed = listed_as port (sounds_on o port.number []) (sounds_on o z es)
       (λ c k low below. ap (λ (m : Music). is_part o c && is_some (sounding_at m.notes c k)) (sym (unheard_port z es unheard))) stands.listed;

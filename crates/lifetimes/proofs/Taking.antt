@@ -16,7 +16,7 @@ use Rattle.retune_model.specs.Pairs.{Pair}
 use Rattle.retune_model.specs.Rests.{notes_at, is_within_tail}
 use Rattle.receiver.specs.Notes.{has}
 use Rattle.receiver.specs.Sounding.{sounding_at, ended_on}
-use Rattle.receiver.specs.Stands as receiver
+use Rattle.receiver.specs.Stands.{PlayerStands}
 use Rattle.receiver.specs.declared.ends.Ends.{Ends}
 use Rattle.lifetimes.specs.Lists.{entry_at, entry_of, struck_at}
 use Rattle.lifetimes.specs.Resting.{end_kept}
@@ -70,7 +70,7 @@ pub record IsTaken (o : Options) (table : Targets) (es : List MidiEvent) (e : Mi
 module _ (o : Options) (table : Targets) (es : List MidiEvent) (e : MidiEvent) (old : Port) (ends : Ends) (new : Port)
     (h : IsTaken o table es e old ends new) where
   plays : Plays old ends new (heard_on o old.number es) e
-  plays = h.takes.plays (heard_on o old.number es) e h.stands.receiver refl refl
+  plays = h.takes.plays (heard_on o old.number es) e h.stands.player refl refl
 
   -- which keys' notes ended, by the notes of the port's music
   bits : (c k : ℕ) → c < 16 → k < 128
@@ -97,8 +97,8 @@ module _ (o : Options) (table : Targets) (es : List MidiEvent) (e : MidiEvent) (
       ∙ ended_sounded c k (notes_of (events_on old.number es)) (notes_of (events_on old.number es ++ e ∷ [])) p.1
 
   -- ---- the receiver, what sounds, and what was struck
-  heard : receiver.Stands new.receiver (heard_on o old.number (es ++ e ∷ []))
-  heard = subst (receiver.Stands new.receiver) (sym (heard_next o old.number es e h.here h.told)) plays.stands
+  heard : PlayerStands new.player (heard_on o old.number (es ++ e ∷ []))
+  heard = subst (PlayerStands new.player) (sym (heard_next o old.number es e h.here h.told)) plays.stands
 
   listed : ListsAll new (sounds_on o old.number (es ++ e ∷ []))
   listed =
@@ -256,7 +256,7 @@ module _ (o : Options) (table : Targets) (es : List MidiEvent) (e : MidiEvent) (
 
   pub port_takes : PortStands o table (es ++ e ∷ []) new
   port_takes = record {
-    receiver = subst (λ z. receiver.Stands new.receiver (heard_on o z (es ++ e ∷ []))) (sym h.takes.number) heard;
+    player = subst (λ z. PlayerStands new.player (heard_on o z (es ++ e ∷ []))) (sym h.takes.number) heard;
     struck = subst (StruckFor o table (es ++ e ∷ []) new) (sym h.takes.number) struck;
     listed = subst (λ z. ListsAll new (sounds_on o z (es ++ e ∷ []))) (sym h.takes.number) listed;
     rests = subst (RestsFor o table (es ++ e ∷ []) new) (sym h.takes.number) rests;

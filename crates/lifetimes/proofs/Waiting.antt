@@ -20,7 +20,7 @@ use Rattle.retune_model.specs.Pairs.{Pair, is_same_pair}
 use Rattle.retune_model.specs.Rests.{notes_at, past_at, pair_of, is_within_tail}
 use Rattle.retune_model.specs.LastEnds.{has_ended}
 use Rattle.receiver.specs.Sounding.{sounding_at}
-use Rattle.receiver.specs.Stands as receiver
+use Rattle.receiver.specs.Stands.{PlayerStands}
 use Rattle.lifetimes.specs.Lists.{struck_at}
 use Rattle.lifetimes.specs.Resting.{end_kept}
 use Rattle.lifetimes.specs.Told.{music_on, port_on, strikes_key, count_begun, number_of, aim_in}
@@ -144,7 +144,7 @@ module _ (laws : Laws) (o : Options) (table : Targets) (es : List MidiEvent) (e 
 
   pub passed_stands : PortStands o table (es ++ e ∷ []) port
   passed_stands = record {
-    receiver = subst (receiver.Stands port.receiver) (sym passed.heard) stands.receiver;
+    player = subst (PlayerStands port.player) (sym passed.heard) stands.player;
     struck = struck;
     listed = listed_as port (sounds_on o port.number es) (sounds_on o port.number (es ++ e ∷ [])) (λ c k low below. sounds_same c k) stands.listed;
     rests = rests;

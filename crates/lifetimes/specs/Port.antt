@@ -8,7 +8,7 @@ use Rattle.retune_model.specs.Ports.{resets}
 use Rattle.retune_model.specs.Rests.{is_within_tail}
 use Rattle.receiver.specs.declared.ends.Ends.{Ends}
 use Rattle.receiver.specs.Notes.{has}
-use Rattle.receiver.specs.Stands.{Stands, TellsEnded, begun_in}
+use Rattle.receiver.specs.Stands.{PlayerStands, TellsEnded, begun_in}
 use Rattle.lifetimes.specs.Lists.{ListsSounding, any_key, entry_at, entry_of, struck_at}
 use Rattle.lifetimes.specs.Resting.{end_kept}
 use Rattle.lifetimes.specs.OnePart.{is_placed, are_placed, IsKeptOrLost}
@@ -64,7 +64,7 @@ HasPlace tail port strike = 0 < tail → has_place port strike ≡ true
 -- no more notes began on a port than so many
 abbrev pub all_counted : ℕ → List Port → Bool
 all_counted n [] = true
-all_counted n (p ∷ ps) = nat_le (begun_in p.receiver) n && all_counted n ps
+all_counted n (p ∷ ps) = nat_le (begun_in p.player) n && all_counted n ps
 
 -- ---- one event
 
@@ -99,15 +99,15 @@ ends_pair ends port c q = any_key (λ k. has (slice_index ends.keys c) k && int_
 abbrev pub end_then : MidiWhat → Ends → ℕ → Port → ℕ → ℤ → Option ℕ
 end_then what ends tick port c q = if is_reset_of what then None else if ends_pair ends port c q then Some tick else end_kept (rests_in port c) q
 
--- The receiver took the event, and told what ended.
+-- The player took the event, and told what ended.
 pub record Plays (old : Port) (ended : Ends) (new : Port) (es : List MidiEvent) (e : MidiEvent) : Type 0 where
-  pub stands : Stands new.receiver (es ++ e ∷ [])
+  pub stands : PlayerStands new.player (es ++ e ∷ [])
   pub ends : TellsEnded ended (after es).music.notes (after (es ++ e ∷ [])).music.notes
 
 -- A note begins, the n-th, or none does.
 pub record Begins (strike : Option Strike) (n : ℕ) (old new : Port) : Type 0 where
   pub number : new.number ≡ old.number
-  pub receiver : new.receiver ≡ old.receiver
+  pub player : new.player ≡ old.player
   pub many : length new.parts ≡ length old.parts
   pub struck : (c k : ℕ) → c < 16 → k < 128 → struck_at (struck_in new c) k ≡ struck_after strike n c k (struck_at (struck_in old c) k)
   pub listed : (at : ℕ → ℕ → Bool) → ListsAll old at → ((c k : ℕ) → strikes_on strike c k ≡ true → at c k ≡ false)
@@ -119,7 +119,7 @@ pub record Begins (strike : Option Strike) (n : ℕ) (old new : Port) : Type 0 w
 -- didn't sound, and none sounds on the key of the note that begins; and what rests from then on.
 pub record Takes (tail : ℕ) (tick : ℕ) (what : MidiWhat) (strike : Option Strike) (n : ℕ) (old : Port) (ends : Ends) (new : Port) : Type 0 where
   pub number : new.number ≡ old.number
-  pub plays : (es : List MidiEvent) (e : MidiEvent) → Stands old.receiver es → e.tick ≡ tick → e.what ≡ what → Plays old ends new es e
+  pub plays : (es : List MidiEvent) (e : MidiEvent) → PlayerStands old.player es → e.tick ≡ tick → e.what ≡ what → Plays old ends new es e
   pub struck : (c k : ℕ) → c < 16 → k < 128 → struck_at (struck_in new c) k ≡ struck_after strike n c k (struck_at (struck_in old c) k)
   pub listed : (at : ℕ → ℕ → Bool) → ListsAll old at
       → ((c k : ℕ) → c < 16 → k < 128 → has (slice_index ends.keys c) k ≡ true → at c k ≡ true)

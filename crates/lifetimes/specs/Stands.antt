@@ -13,7 +13,7 @@ use Rattle.retune_model.specs.Pairs.{Pair}
 use Rattle.retune_model.specs.Rests.{past_at, notes_at, is_within_tail}
 use Rattle.retune_model.specs.LastEnds.{later_end}
 use Rattle.retune_model.specs.SourceFaults.{IsFaultless, ports_used}
-use Rattle.receiver.specs.Stands as receiver
+use Rattle.receiver.specs.Stands.{PlayerStands}
 use Rattle.receiver.specs.Sounding.{sounding_at}
 use Rattle.lifetimes.specs.Views.{options_of}
 use Rattle.lifetimes.specs.Told.{music_on, is_of_pair, aim_in, number_of, count_begun}
@@ -25,7 +25,7 @@ use Rattle.lifetimes.specs.declared.port.Port.{Port}
 use Rattle.lifetimes.specs.declared.source.Source.{Source}
 use Rattle.lifetimes.specs.declared.parts.Parts.{Parts}
 
--- the events of a port that its receiver takes: not those of kept drums
+-- the events of a port that its player takes: not those of kept drums
 abbrev pub heard_on : Options → ℕ → List MidiEvent → List MidiEvent
 heard_on o z es = if o.keep_drums then without_drums (events_on z es) else events_on z es
 
@@ -50,7 +50,7 @@ pair_on z c q = record { part = record { port = z; channel = c }; steps = q }
 -- A port stands for a list of events of all ports: what it keeps is what the definitions give for the list. Of the last ends those count
 -- that are less than a tail ago, now or later.
 pub record PortStands (o : Options) (table : Targets) (es : List MidiEvent) (port : Port) : Type 0 where
-  pub receiver : receiver.Stands port.receiver (heard_on o port.number es)
+  pub player : PlayerStands port.player (heard_on o port.number es)
   pub struck : (c k : ℕ) (x : ℕ × Note) → c < 16 → k < 128 → is_part o c ≡ true → sounding_at (music_on port.number es).notes c k ≡ Some x
       → struck_at (struck_in port c) k ≡ record { note = number_of o (record { port = port.number; channel = c }) k es; target = aim_in o table k x.1.onset }
   pub listed : ListsAll port (sounds_on o port.number es)

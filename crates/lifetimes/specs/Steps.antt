@@ -20,7 +20,7 @@ use Rattle.lifetimes.specs.declared.port.Port.{Port}
 use Rattle.lifetimes.specs.declared.port.Strike.{Strike}
 use Rattle.lifetimes.specs.declared.source.Source.{Source}
 
--- whether a port's receiver takes an event: not a message of kept drums
+-- whether a port's player takes an event: not a message of kept drums
 abbrev pub is_heard : Options → MidiWhat → Bool
 is_heard o what = not (o.keep_drums && is_drum_message what)
 
@@ -32,10 +32,10 @@ pub record ComesNext (table : Targets) (source : Source) (es : List MidiEvent) (
   pub at : port ≡ port_on es e
   pub begins : strike ≡ strike_of (options_of source.options) table e.tick e.what
 
--- the event's port has a place, and its receiver room for what it takes
+-- the event's port has a place, and its player room for what it takes
 pub record CanTake (source : Source) (port : ℕ) (what : MidiWhat) : Type 0 where
   pub place : is_message what ≡ true → place_of source port < 4
-  pub room : is_heard source.options what ≡ true → AllByRecursion (λ (p : Port). HasRoom p.receiver what) (port_in source (place_of source port))
+  pub room : is_heard source.options what ≡ true → AllByRecursion (λ (p : Port). HasRoom p.player what) (port_in source (place_of source port))
 
 -- and its pair a place among those that may rest
 abbrev pub HasPlaceIn : Source → ℕ → Option Strike → Type 0

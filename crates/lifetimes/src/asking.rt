@@ -10,7 +10,7 @@ ghost use Rattle.retune_model.specs.Ports.{tick_to};
 ghost use Rattle.retune_model.specs.Faults.{Targets, is_part, int_eq};
 ghost use Rattle.retune_model.specs.SourceFaults.{IsFaultless};
 ghost use Rattle.channel_model.specs.Choice.{wanted};
-ghost use Rattle.receiver.specs.Stands.{Stands};
+ghost use Rattle.receiver.specs.Stands.{PlayerStands};
 ghost use Rattle.receiver.specs.State.{state_of, own_of};
 ghost use Rattle.lifetimes.specs.Port.{listed_in};
 ghost use Rattle.lifetimes.specs.Pressing.{pressed_by, pressed_by_all};
@@ -51,7 +51,7 @@ impl Port {
     {
         music_laws();
         drums_stand_apart();
-        match self.receiver.sounding(channel, key) {
+        match self.player.sounding(channel, key) {
             Some(note) => {
                 let notes = self.notes(channel);
                 let struck = notes.struck(key);
@@ -112,12 +112,12 @@ impl Port {
     /// Gives the target keys of a pair's notes the pressures of their source keys.
     fn press_targets(&self, state: &mut ChannelState, channel: Channel, steps: i32)
         ensures own { own_of state.new ≡ own_of state.old }
-        ensures keys { (es : List MidiEvent) → Stands self.now.receiver es → state.new.keys.items
+        ensures keys { (es : List MidiEvent) → PlayerStands self.now.player es → state.new.keys.items
             ≡ pressed_by_all (key_pressures (after es).music.notes channel 0 128)
             (filter (λ x. int_eq x.steps steps) (listed_in self.now channel)) state.old.keys.items }
         ensures tuning { state.new.tuning ≡ state.old.tuning }
     {
-        let source = self.receiver.state(channel);
+        let source = self.player.state(channel);
         for note in self.notes(channel).with_steps(steps) {
             press_target(source, state, note);
         }
@@ -141,7 +141,7 @@ impl Port {
         port_laws();
         sound_sources();
         drums_stand_apart();
-        let mut state = self.receiver.state(channel).copy();
+        let mut state = self.player.state(channel).copy();
         let moved = self.moved(range, channel);
         state.bend_range(range);
         state.set_bend(bend_value(steps, moved));

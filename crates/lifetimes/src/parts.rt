@@ -41,6 +41,17 @@ impl<T: Aims> Parts<T> {
         }
     }
 
+    /// All is as before any event, with the same targets and options.
+    pub fn restart(&mut self)
+        ensures stands { Stands (T.table (table_in self.new)) self.new [] }
+        ensures table { table_in self.new ≡ table_in self.old }
+        ensures options { asked self.new ≡ asked self.old }
+        ensures position { position_of self.new ≡ 0 }
+        ensures tick { tick_of self.new ≡ 0 }
+    {
+        self.source = Source::new(self.source.alloc, self.source.options);
+    }
+
     /// The targets that `new` took.
     pub fn table(&self) -> &T
         ensures { result.now ≡ table_in self.now }

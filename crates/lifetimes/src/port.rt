@@ -15,7 +15,7 @@ use crate::notes::{Notes, Struck, sounding_of};
 use key_pitch::Aim;
 use mt_base::{Channel, Memory, Pair, Part, What};
 use mts_msg::is_reset;
-use receiver::{Ends, Receiver};
+use receiver::{Ends, Player};
 use std::alloc::Global;
 use std::collections::VecDeque;
 
@@ -42,7 +42,7 @@ pub(crate) struct Strike {
 #[derive(Drop)]
 pub(crate) struct Port {
     pub number: u8,
-    pub receiver: Receiver,
+    pub player: Player,
     pub parts: [Notes; 16],
     /// The ends of notes that rest, in the order in which they came. They say when a rest is to be
     /// forgotten, and nothing else.
@@ -54,11 +54,11 @@ impl Port {
     pub fn new(alloc: Global) -> Port
         ensures stands { (o : Options) (table : Targets) → PortStands o table [] result }
         ensures kept { (tail : ℕ) → IsKept tail result }
-        ensures begun { begun_in result.receiver ≡ 0 }
+        ensures begun { begun_in result.player ≡ 0 }
     {
         Port {
             number: 0,
-            receiver: Receiver::new(),
+            player: Player::new(),
             parts: [
                 Notes::new(alloc),
                 Notes::new(alloc),
@@ -93,7 +93,7 @@ impl Port {
     /// Makes room for the rest of a note that will begin.
     pub fn admit(&mut self, strike: &Strike) -> Result<(), Memory>
         ensures number { self.new.number ≡ self.old.number }
-        ensures receiver { self.new.receiver ≡ self.old.receiver }
+        ensures player { self.new.player ≡ self.old.player }
         ensures struck { (c : ℕ) → c < 16 → struck_in self.new c ≡ struck_in self.old c }
         ensures listed { (c : ℕ) → c < 16 → listed_in self.new c ≡ listed_in self.old c }
         ensures rests { (c : ℕ) (q : ℤ) → c < 16
@@ -111,7 +111,7 @@ impl Port {
     fn end_all(&mut self, ends: &Ends, tick: u32, tail: u32)
         requires { IsKept tail self.old }
         ensures number { self.new.number ≡ self.old.number }
-        ensures receiver { self.new.receiver ≡ self.old.receiver }
+        ensures player { self.new.player ≡ self.old.player }
         ensures many { length self.new.parts ≡ 16 }
         ensures parts { EachPart (λ c. PartEnds false (has (slice_index ends.now.keys c)) tick tail)
             self.old self.new }
@@ -131,7 +131,7 @@ impl Port {
     /// All notes ended, and none rests.
     fn clear(&mut self)
         ensures number { self.new.number ≡ self.old.number }
-        ensures receiver { self.new.receiver ≡ self.old.receiver }
+        ensures player { self.new.player ≡ self.old.player }
         ensures many { length self.new.parts ≡ 16 }
         ensures parts { (which : ℕ → ℕ → Bool) (tick tail : ℕ)
             → EachPart (λ c. PartEnds true (which c) tick tail) self.old self.new }
@@ -146,7 +146,7 @@ impl Port {
     fn let_go(&mut self, what: &What<'_>, ends: &Ends, tick: u32, tail: u32)
         requires { IsKept tail self.old }
         ensures number { self.new.number ≡ self.old.number }
-        ensures receiver { self.new.receiver ≡ self.old.receiver }
+        ensures player { self.new.player ≡ self.old.player }
         ensures many { length self.new.parts ≡ 16 }
         ensures parts { EachPart (λ c. PartEnds (is_reset_of (view_what what.now))
             (has (slice_index ends.now.keys c)) tick tail) self.old self.new }
@@ -183,7 +183,7 @@ impl Port {
     /// Forgets the rests that have run out.
     fn run_out(&mut self, tick: u32, tail: u32)
         ensures number { self.new.number ≡ self.old.number }
-        ensures receiver { self.new.receiver ≡ self.old.receiver }
+        ensures player { self.new.player ≡ self.old.player }
         ensures many { length self.new.parts ≡ 16 }
         ensures parts { EachPart (λ c. PartForgets tick tail) self.old self.new }
     {
@@ -215,16 +215,16 @@ impl Port {
     ) -> Ends
         requires valid { IsValidWhat (view_what what.now) }
         requires key { IfSome strike.now (λ s. s.key < 128) }
-        requires room { HasRoom self.old.receiver (view_what what.now) }
-        requires few { begun_in self.old.receiver < 4294967295 }
+        requires room { HasRoom self.old.player (view_what what.now) }
+        requires few { begun_in self.old.player < 4294967295 }
         requires kept { IsKept tail self.old }
         requires place { HasPlace tail self.old strike.now }
         requires alone { is_reset_of (view_what what.now) ≡ true → strike.now ≡ None }
         ensures takes { Takes tail tick (view_what what.now) strike.now note self.old result self.new }
         ensures kept { IsKept tail self.new }
-        ensures begun { begun_in self.new.receiver ≤ begun_in self.old.receiver + 1 }
+        ensures begun { begun_in self.new.player ≤ begun_in self.old.player + 1 }
     {
-        let ends = self.receiver.step(tick, what);
+        let ends = self.player.step(tick, what);
         self.let_go(what, &ends, tick, tail);
         self.begin(strike, note);
         // The pair of a note that begins stays, also where its rest runs out at this very tick.

@@ -15,7 +15,7 @@ ghost use Rattle.retune_model.specs.Ports.{port_at};
 ghost use Rattle.retune_model.specs.Faults.{Targets, is_part, first_that, is_restrike, is_unison};
 ghost use Rattle.mt_base.specs.declared.event.Msg.TheVariants.{NoteOn, Bend, Control};
 ghost use Rattle.retune_model.specs.SourceFaults.{IsFaultless};
-ghost use Rattle.receiver.specs.Stands.{Stands, HasRoom};
+ghost use Rattle.receiver.specs.Stands.{PlayerStands, HasRoom};
 ghost use Rattle.lifetimes.specs.Stands.{PortStands};
 ghost use Rattle.lifetimes.specs.Told.{told_kind, due_kind, strike_of, port_on, aim_in, music_on};
 ghost use Rattle.lifetimes.specs.Views.{options_of};
@@ -106,14 +106,14 @@ impl Port {
         requires range_high { range ≤ 96 }
         ensures low { neg_ℤ (pos 2102000) ≤ℤ result }
         ensures high { result ≤ℤ pos 2102000 }
-        ensures own { (es : List MidiEvent) → Stands self.now.receiver es
+        ensures own { (es : List MidiEvent) → PlayerStands self.now.player es
             → result ≡ bend_in_steps range (channel_at (after es).music channel) }
         ensures bend { (o : Asked) (table : Targets) (es : List MidiEvent)
             → PortStands o table es self.now → is_part o channel ≡ true
             → result ≡ bend_in_steps range (channel_at (music_on self.now.number es) channel) }
     {
         drums_stand_apart();
-        let state = self.receiver.state(channel);
+        let state = self.player.state(channel);
         state.well_formed();
         bend_in_steps(range, state.bend, state.value(true, 0, 0))
     }
@@ -202,7 +202,7 @@ impl Port {
         music_laws();
         position_laws();
         drums_stand_apart();
-        let sensitivity = self.receiver.state(channel).value(true, 0, 0);
+        let sensitivity = self.player.state(channel).value(true, 0, 0);
         let moved = bend_in_steps(options.range, value, sensitivity);
         self.bend_fault(options, channel, moved, tick)
     }
@@ -232,7 +232,7 @@ impl Port {
         sound_sources();
         zone_entries_set_zones();
         drums_stand_apart();
-        let state = self.receiver.state(channel);
+        let state = self.player.state(channel);
         state.well_formed();
         let sensitivity = sensitivity_after(state, channel, is_high, value);
         let moved = bend_in_steps(options.range, state.bend, sensitivity);
@@ -298,7 +298,7 @@ impl Port {
         if !options.route.bends() {
             return false;
         }
-        match self.receiver.sounding(strike.channel, strike.key) {
+        match self.player.sounding(strike.channel, strike.key) {
             Some(_) => !is_same(
                 self.notes(strike.channel).struck(strike.key).target,
                 strike.target,
@@ -359,7 +359,7 @@ impl Port {
             → strike.now ≡ strike_of (options_of options.now) table tick (view_what what.now)
             → told_kind result ≡ due_kind (options_of options.now) table false
             (port_at (es ++ e ∷ []) z) (length es) e }
-        ensures room { IfNone result (HasRoom self.now.receiver (view_what what.now)) }
+        ensures room { IfNone result (HasRoom self.now.player (view_what what.now)) }
     {
         music_laws();
         position_laws();
@@ -369,7 +369,7 @@ impl Port {
         if fault.is_some() {
             return fault;
         }
-        if !self.receiver.room(what) {
+        if !self.player.room(what) {
             return Some(SourceKind::TooManyParameters);
         }
         self.late_fault(options, message, strike)

@@ -186,7 +186,7 @@ impl Source {
         requires fewer { AreFewer self.old }
         requires next { 0 < self.old.position }
         requires room { is_heard self.old.options (view event.now).what ≡ true
-            → AllByRecursion (λ p. HasRoom p.receiver (view event.now).what) (port_in self.old place) }
+            → AllByRecursion (λ p. HasRoom p.player (view event.now).what) (port_in self.old place) }
         requires place { AllByRecursion (λ p. HasPlace self.old.options.tail p strike.now)
             (port_in self.old place) }
         ensures hears { Hears place (view event.now) strike.now result self.old self.new }

@@ -32,8 +32,8 @@ returns-in-Some c = λ o table es stands.
     ∙ (ap (λ q. f (struck_at (struck_in port c.args.channel) c.args.key) q c.is_none.result) steps
     ∙ (ap (f (struck_at (struck_in port c.args.channel) c.args.key) (entry_at (struck_in port c.args.channel) c.args.key).steps) up
     ∙ begun_told c.music_laws.ensures.fade c.drums_stand_apart.ensures.music o table es port c.args.channel c.args.key c.in-Some.note stands low c.requires
-    (sym (c.sounding.ensures _ stands.receiver) ∙ c.in-Some.is)))
+    (sym (c.sounding.ensures _ stands.player) ∙ c.in-Some.is)))
 
 pub returns-in-None : goal.returns-in-None
 returns-in-None c = λ o table es stands.
-    none_told c.drums_stand_apart.ensures.music o table es c.args.self.now c.args.channel c.args.key (sym (c.sounding.ensures _ stands.receiver) ∙ c.in-None.is)
+    none_told c.drums_stand_apart.ensures.music o table es c.args.self.now c.args.channel c.args.key (sym (c.sounding.ensures _ stands.player) ∙ c.in-None.is)

@@ -11,7 +11,7 @@ loop-place-preserved c =
     let i = c.loop-place.invariant in
     record {
       number = i.number;
-      receiver = i.receiver;
+      player = i.player;
       parts = λ which tick tail. one_done
           (λ e. PartEnds true (which e) tick tail) p c.args.self.now.parts now.parts c.index-self-place.result c.clear.new.self
           (omega (arith, c.loop-place-test.true)) (i.parts which tick tail)

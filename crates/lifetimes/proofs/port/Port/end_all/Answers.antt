@@ -5,7 +5,7 @@ use Rattle.lifetimes.proofs.EachPart.{none_done, one_done, kept_left}
 use Rattle.lifetimes.proofs.port.Port.end_all.Goals as goal
 
 pub loop-place-init : goal.loop-place-init
-loop-place-init c = record { number = refl; receiver = refl; parts = none_done _ c.args.self.now.parts (search rules) }
+loop-place-init c = record { number = refl; player = refl; parts = none_done _ c.args.self.now.parts (search rules) }
 
 pub end_all-requires : goal.end_all-requires
 end_all-requires c =
@@ -17,7 +17,7 @@ loop-place-preserved c =
     let i = c.loop-place.invariant in
     record {
       number = i.number;
-      receiver = i.receiver;
+      player = i.player;
       parts = one_done (λ e. PartEnds false
           (has (slice_index c.args.ends.now.keys e)) c.args.tick c.args.tail) c.loop-place.place c.args.self.now.parts c.loop-place.self.parts
           c.index-self-place.result c.end_all.new.self (omega (arith, c.loop-place-test.true)) i.parts c.end_all.ensures;

@@ -7,6 +7,6 @@ use Rattle.lifetimes.proofs.port.Port.end_all.Given as goal
 abbrev pub invariant-loop-place : goal.invariant-loop-place
 invariant-loop-place l = record {
   number : l.self.number ≡ l.fn.self.number;
-  receiver : l.self.receiver ≡ l.fn.self.receiver;
+  player : l.self.player ≡ l.fn.self.player;
   parts : Done (λ c. PartEnds false (has (slice_index l.ends.keys c)) l.tick l.tail) l.place l.fn.self.parts l.self.parts;
 }

@@ -38,7 +38,7 @@ returns c table es e z next what tick part =
     let zones = no_zones_on (record { zones = c.zone_entries_set_zones.ensures; fine = c.sound_sources.ensures.fine; music = music })
     o table z es next.faultless in
     let s : Channel = own_of c.state-state.result.now in
-    let own : s ≡ channel_at m channel = c.state-state.ensures.own (heard_on o z es) next.stands.receiver
+    let own : s ≡ channel_at m channel = c.state-state.ensures.own (heard_on o z es) next.stands.player
     ∙ heard_channel c.drums_stand_apart.ensures.music o z es channel part in
     let made : IsEntered (channel_at m channel) (channel_at (step m e) channel) channel high v =
     entered parameters.given parameters.others m e channel high v what low

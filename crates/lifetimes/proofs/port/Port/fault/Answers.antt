@@ -32,7 +32,7 @@ returns-then-not-room-clause-fault c z table es e valid order faultless stands w
     many_due o table es e z message says none
     (room_due c.music_laws.ensures.settled c.position_laws.ensures.music c.zone_entries_set_zones.ensures c.drums_stand_apart.ensures.music
     o table es e z c.args.self.now message next says part none c.room.result
-    (subst (λ w. IsTrue c.room.result ↔ HasRoom c.args.self.now.receiver w) c.requires.message c.room.ensures.own)
+    (subst (λ w. IsTrue c.room.result ↔ HasRoom c.args.self.now.player w) c.requires.message c.room.ensures.own)
     false c.if-not-room.true)
 
 pub returns-clause-fault : goal.returns-clause-fault
@@ -49,5 +49,5 @@ returns-clause-fault c z table es e valid order faultless stands what tick here 
     ∙ late_is_due o table es e z message says none
     (room_due c.music_laws.ensures.settled c.position_laws.ensures.music c.zone_entries_set_zones.ensures c.drums_stand_apart.ensures.music
     o table es e z c.args.self.now message next says part none c.room.result
-    (subst (λ w. IsTrue c.room.result ↔ HasRoom c.args.self.now.receiver w) c.requires.message c.room.ensures.own)
+    (subst (λ w. IsTrue c.room.result ↔ HasRoom c.args.self.now.player w) c.requires.message c.room.ensures.own)
     true c.if-not-room.false)

@@ -12,7 +12,7 @@ returns-in-Some c table es e z v next strike =
     ∙ restrike_told c.music_laws.ensures.fade c.receiver_laws.ensures.one_note c.drums_stand_apart.ensures.music
     (options_of c.args.options.now) table es e z v c.args.self.now c.args.strike.now
     next strike (sym c.bends.ensures ∙ c.if-not-bends.false) true _
-    (is_told _ _ c.sounding.result true (c.sounding.ensures (heard_on (options_of c.args.options.now) z es) next.stands.receiver)
+    (is_told _ _ c.sounding.result true (c.sounding.ensures (heard_on (options_of c.args.options.now) z es) next.stands.player)
     (ap is_some c.in-Some.is))
     (ap (λ s. s.target) (c.struck.ensures ∙ ap (λ ss. struck_at ss c.args.strike.now.key) c.notes.ensures.struck))
 
@@ -21,6 +21,6 @@ returns-in-None c table es e z v next strike =
     restrike_told c.music_laws.ensures.fade c.receiver_laws.ensures.one_note c.drums_stand_apart.ensures.music
     (options_of c.args.options.now) table es e z v c.args.self.now c.args.strike.now
     next strike (sym c.bends.ensures ∙ c.if-not-bends.false) false _
-    (is_told _ _ c.sounding.result false (c.sounding.ensures (heard_on (options_of c.args.options.now) z es) next.stands.receiver)
+    (is_told _ _ c.sounding.result false (c.sounding.ensures (heard_on (options_of c.args.options.now) z es) next.stands.player)
     (ap is_some c.in-None.is))
     refl

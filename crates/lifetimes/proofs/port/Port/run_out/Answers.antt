@@ -7,7 +7,7 @@ use Rattle.lifetimes.proofs.port.Port.run_out.Goals as goal
 pub loop-channel-init : goal.loop-channel-init
 loop-channel-init c = record {
   number = refl;
-  receiver = refl;
+  player = refl;
   long = search rules;
   parts = λ place low d. none_forgotten c.args.tick c.args.tail (get_or c.args.self.now.parts place d);
 }
@@ -20,7 +20,7 @@ loop-channel-preserved c =
     let low : p < 16 = omega (arith, c.number.ensures.bound) in
     record {
       number = i.number;
-      receiver = i.receiver;
+      player = i.player;
       long = length-set now.parts p c.run_out.new.self ∙ i.long;
       parts = one_forgets c.args.tick c.args.tail p c.args.self.now.parts now.parts c.index-self-number.result c.run_out.new.self i.long low i.parts
           (c.run_out.ensures c.args.tick c.args.tail (omega (arith, c.if-tick-end.false)));

@@ -6,7 +6,7 @@ use Rattle.lifetimes.proofs.port.Port.run_out.Given as goal
 abbrev pub invariant-loop-channel : goal.invariant-loop-channel
 invariant-loop-channel l = record {
   number : l.self.number ≡ l.initial.self.number;
-  receiver : l.self.receiver ≡ l.initial.self.receiver;
+  player : l.self.player ≡ l.initial.self.player;
   long : length l.self.parts ≡ 16;
   parts : EachPart (λ c. PartForgets l.tick l.tail) l.initial.self l.self;
 }

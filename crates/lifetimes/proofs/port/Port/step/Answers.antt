@@ -2,7 +2,7 @@ use Rattle.std.proofs.Common.{◌≤◌, ◌+◌, rules, ◌≡◌, ◌∙◌, �
 use Rattle.mt_base.specs.Midi.{view_what}
 use Rattle.retune_model.specs.Rests.{is_within_tail}
 use Rattle.receiver.specs.Notes.{has}
-use Rattle.receiver.specs.Stands.{Stands, begun_in}
+use Rattle.receiver.specs.Stands.{PlayerStands, begun_in}
 use Rattle.lifetimes.specs.Lists.{ListsSounding, struck_at}
 use Rattle.lifetimes.specs.OnePart.{IsKeptOrLost}
 use Rattle.lifetimes.specs.Port.{ListsAll, struck_in, listed_in, rests_in, is_reset_of, is_left, sounds_then, struck_after}
@@ -30,12 +30,12 @@ returns c =
     let ln : length new.parts ≡ 16 = c.run_out.ensures.many in
     let gone = c.let_go.ensures.parts in
     let lost = c.run_out.ensures.parts in
-    let receiver = c.run_out.ensures.receiver ∙ (c.begin.ensures.receiver ∙ c.let_go.ensures.receiver) in
+    let player = c.run_out.ensures.player ∙ (c.begin.ensures.player ∙ c.let_go.ensures.player) in
     record {
       takes = record {
         number = c.run_out.ensures.number ∙ (c.begin.ensures.number ∙ c.let_go.ensures.number);
         plays = λ es e st t w. record {
-          stands = subst (λ r. Stands r (es ++ e ∷ [])) (sym receiver) (c.step-ends.ensures.stands es e st t w);
+          stands = subst (λ r. PlayerStands r (es ++ e ∷ [])) (sym player) (c.step-ends.ensures.stands es e st t w);
           ends = c.step-ends.ensures.ends es e st t w;
         };
         struck = λ d k low below.
@@ -61,5 +61,5 @@ returns c =
       kept = forgotten_kept tick tail begun new lb ln lost tail
           (c.begin.ensures.kept tail (ended_place reset which tick tail old mid lo lm gone strike c.requires.alone c.requires.place)
           (ended_kept reset which tick tail old mid lo lm gone c.requires.kept));
-      begun = subst (λ r. begun_in r ≤ begun_in old.receiver + 1) (sym receiver) c.step-ends.ensures.begun;
+      begun = subst (λ r. begun_in r ≤ begun_in old.player + 1) (sym player) c.step-ends.ensures.begun;
     }

@@ -30,7 +30,7 @@ returns-then-is_beyond c table es e z v next strike =
     let steps : to_z w32 (of_z w32 c.in-Bend.steps) ≡ c.in-Bend.steps = search rules in
     let moved = to_z-of_z w32 c.moved-moved.result (record { sfits = c.moved-moved.type_inv }) in
     let within : Bool = is_within_bend (to_z w32 (of_z w32 c.in-Bend.steps) +ℤ to_z w32 (of_z w32 c.moved-moved.result)) in
-    let now = moved_is laws next bent c.drums_stand_apart.ensures.music (moved ∙ c.moved-moved.ensures.own _ next.stands.receiver) in
+    let now = moved_is laws next bent c.drums_stand_apart.ensures.music (moved ∙ c.moved-moved.ensures.own _ next.stands.player) in
     far_told laws next bent unison steps now c.is_bend.ensures
     (ap (λ b. b && not within) c.if-is_bend.true ∙ (sym c.is_beyond.ensures ∙ c.if-is_beyond.true))
 
@@ -43,7 +43,7 @@ returns c table es e z v next strike =
     let steps : to_z w32 (of_z w32 c.in-Bend.steps) ≡ c.in-Bend.steps = search rules in
     let moved = to_z-of_z w32 c.moved-moved.result (record { sfits = c.moved-moved.type_inv }) in
     let within : Bool = is_within_bend (to_z w32 (of_z w32 c.in-Bend.steps) +ℤ to_z w32 (of_z w32 c.moved-moved.result)) in
-    let now = moved_is laws next bent c.drums_stand_apart.ensures.music (moved ∙ c.moved-moved.ensures.own _ next.stands.receiver) in
+    let now = moved_is laws next bent c.drums_stand_apart.ensures.music (moved ∙ c.moved-moved.ensures.own _ next.stands.player) in
     far_told laws next bent unison steps now c.is_bend.ensures
     (elim c.else-is_bend.branch [
       | else-is_bend-via-then-is_bend+else-is_beyond w ↦ ap (λ b. b && not within) w.if-is_bend.true

@@ -23,7 +23,7 @@ returns c table es e z next what tick part =
     let m = music_on z es in
     let sensitivity : value_of (channel_at m channel).params (rpn 0) ≡ c.value-sensitivity.result =
     sym (c.value-sensitivity.ensures.value ∙ ap (λ (s : Channel). value_of s.params (rpn 0))
-    (c.state.ensures.own (heard_on o z es) next.stands.receiver ∙ heard_channel c.drums_stand_apart.ensures.music o z es channel part)) in
+    (c.state.ensures.own (heard_on o z es) next.stands.player ∙ heard_channel c.drums_stand_apart.ensures.music o z es channel part)) in
     c.bend_fault.ensures table es e z next tick part (ap (is_aimed o (is_part o) table e.tick) what)
     (turn_leaves c.music_laws.ensures.settled z es e channel c.args.value what low)
     ∙ turn_due o table es e z channel c.args.value _ what part

@@ -43,7 +43,7 @@ returns-clause-state c = λ o table es valid order faultless stands range bends 
     ∙ (ap (λ x. bend_value ((pos 8192 +ℤ x) +ℤ to_z w32 (of_z w32 c.moved-moved.result))) steps
     ∙ ap (λ x. bend_value ((pos 8192 +ℤ q) +ℤ x)) (to_z-of_z w32 c.moved-moved.result (record { sfits = c.moved-moved.type_inv }) ∙ moved)) in
     let copied : own_of c.copy-state.result ≡ channel_at m ch = c.copy-state.ensures.own
-    ∙ (c.state.ensures.own (heard_on o z es) stands.receiver ∙ heard_channel c.drums_stand_apart.ensures.music o z es ch part) in
+    ∙ (c.state.ensures.own (heard_on o z es) stands.player ∙ heard_channel c.drums_stand_apart.ensures.music o z es ch part) in
     let own : own_of c.press_targets.new.state ≡ with (channel_at m ch) o.range full =
     c.press_targets.ensures.own ∙ (c.relax.ensures.own ∙ (c.untune.ensures.own ∙ (c.set_bend.ensures.own
     ∙ (ap (λ (s : Channel). let r : Channel = record s { bend = c.bend_value.result } in r) c.bend_range.ensures.own
@@ -70,7 +70,7 @@ returns-clause-state c = λ o table es valid order faultless stands range bends 
     let relaxed = c.relax.new.self.keys.items in
     let given = key_pressures (after (heard_on o z es)).music.notes ch 0 128 in
     let keys : c.press_targets.new.state.keys.items ≡ wanted_keys o table (pair_on z ch q) (sounding o m) =
-    c.press_targets.ensures.keys (heard_on o z es) stands.receiver
+    c.press_targets.ensures.keys (heard_on o z es) stands.player
     ∙ (ap (λ x. pressed_by_all given (filter (λ s. int_eq s.steps x) (listed_in port ch)) relaxed) steps
     ∙ keys_wanted c.drums_stand_apart.ensures.music o table es port ch q relaxed bent c.well_formed-2.ensures.formed.keys
     (λ k kl. c.relax.ensures.keys k kl ∙ ap (λ b. cond b 0 (slice_index c.untune.new.self.keys.items k)) (has_all k kl))) in

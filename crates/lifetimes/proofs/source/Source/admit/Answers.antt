@@ -26,7 +26,7 @@ invariant_of-self-clause-counted c =
     let place = c.place-place.result in
     let within : place < length old.ports = search rules in
     counted_set old.position old.ports place c.admit.new.self
-    (subst (λ r. begun_in r ≤ old.position) (sym c.admit.ensures.receiver)
+    (subst (λ r. begun_in r ≤ old.position) (sym c.admit.ensures.player)
     (counted_at old.position old.ports place c.index-self-place.result within old.counted)) old.counted
 
 pub returns-in_err-admit-clause-stands : goal.returns-in_err-admit-clause-stands
@@ -39,7 +39,7 @@ returns-in_err-admit-clause-stands c = λ table es s.
     let within : place < length old.ports = search rules in
     let alike : IsAlike (slice_index_or old.ports place x) new = record {
       number = c.admit.ensures.number;
-      receiver = c.admit.ensures.receiver;
+      player = c.admit.ensures.player;
       struck = c.admit.ensures.struck;
       listed = c.admit.ensures.listed;
       rests = c.admit.ensures.rests;
@@ -70,9 +70,9 @@ returns-in_err-admit-clause-can c = λ what can.
     ap (place_from 0 c.args.port) (numbers_alike old.used old.ports place x new within c.admit.ensures.number) in
     record {
       place = λ says. (let low = can.place says in omega (arith, low, same));
-      room = λ heard. subst (λ i. AllByRecursion (λ (p : Port). HasRoom p.receiver what) (take 1 (drop i (set old.ports place new)))) (sym same)
-          (all_set_there (λ (p : Port). HasRoom p.receiver what) x new (place_of old c.args.port) old.ports place
-          (subst (λ r. HasRoom r what) (sym c.admit.ensures.receiver)) (can.room heard));
+      room = λ heard. subst (λ i. AllByRecursion (λ (p : Port). HasRoom p.player what) (take 1 (drop i (set old.ports place new)))) (sym same)
+          (all_set_there (λ (p : Port). HasRoom p.player what) x new (place_of old c.args.port) old.ports place
+          (subst (λ r. HasRoom r what) (sym c.admit.ensures.player)) (can.room heard));
     }
 
 pub returns-in_ok-admit-clause-stands : goal.returns-in_ok-admit-clause-stands
@@ -85,7 +85,7 @@ returns-in_ok-admit-clause-stands c = λ table es s.
     let within : place < length old.ports = search rules in
     let alike : IsAlike (slice_index_or old.ports place x) new = record {
       number = c.admit.ensures.number;
-      receiver = c.admit.ensures.receiver;
+      player = c.admit.ensures.player;
       struck = c.admit.ensures.struck;
       listed = c.admit.ensures.listed;
       rests = c.admit.ensures.rests;
@@ -116,9 +116,9 @@ returns-in_ok-admit-clause-can c = λ what can.
     ap (place_from 0 c.args.port) (numbers_alike old.used old.ports place x new within c.admit.ensures.number) in
     record {
       place = λ says. (let low = can.place says in omega (arith, low, same));
-      room = λ heard. subst (λ i. AllByRecursion (λ (p : Port). HasRoom p.receiver what) (take 1 (drop i (set old.ports place new)))) (sym same)
-          (all_set_there (λ (p : Port). HasRoom p.receiver what) x new (place_of old c.args.port) old.ports place
-          (subst (λ r. HasRoom r what) (sym c.admit.ensures.receiver)) (can.room heard));
+      room = λ heard. subst (λ i. AllByRecursion (λ (p : Port). HasRoom p.player what) (take 1 (drop i (set old.ports place new)))) (sym same)
+          (all_set_there (λ (p : Port). HasRoom p.player what) x new (place_of old c.args.port) old.ports place
+          (subst (λ r. HasRoom r what) (sym c.admit.ensures.player)) (can.room heard));
     }
 
 pub returns-in_ok-admit-clause-place : goal.returns-in_ok-admit-clause-place

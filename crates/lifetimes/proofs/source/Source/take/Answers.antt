@@ -19,7 +19,7 @@ pub hear-requires-clause-room : goal.hear-requires-clause-room
 hear-requires-clause-room c = λ is.
     let old = c.args.self.now in
     let what = (view c.args.event.now).what in
-    let P : Port → Type 0 = λ p. HasRoom p.receiver what in
+    let P : Port → Type 0 = λ p. HasRoom p.player what in
     let same = c.count.ensures.counts.options ∙ c.open-place.ensures.opens.options in
     let room = c.requires.can.room (sym (ap (λ (o : Options). is_heard o what) same) ∙ is) in
     subst (λ i. AllByRecursion P (take 1 (drop i c.count.new.self.ports))) (sym c.open-place.ensures.place)
