@@ -1,0 +1,5 @@
+pub mod Outward
+pub mod Near
+pub mod Below
+pub mod Whole
+pub mod Told

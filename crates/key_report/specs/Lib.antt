@@ -1,0 +1,5 @@
+pub mod Errors
+pub mod ErrorLaws
+pub mod Keys
+pub mod Texts
+pub mod KeyLaws

@@ -1,0 +1,15 @@
+//! What a report says of keys: what a device is told of each key in use, and by how much that is higher
+//! than the pitch that is meant, in thousandths of a cent.
+#![tactic(auto)]
+
+mod keys;
+mod laws;
+mod range;
+#[cfg(test)]
+mod tests;
+mod text;
+
+pub use keys::{KeyError, push_keys};
+pub use laws::{error_examples, error_laws, key_laws, rounding_laws};
+pub use range::ErrorRange;
+pub use text::{push_error, push_thousandths, push_whole};
