@@ -1,0 +1,34 @@
+//! How the output of the bend route follows its source.
+
+ghost use Rattle.bend_laws.specs.Laws.{EventsKeepFollowing, OutputPlaysTheSource};
+
+use midi_model::{music_laws, receiver_laws};
+use retune_model::zone_entries_set_zones;
+use state_laws::{a_receiver_follows, bring_reaches, messages_only_set, states_stay_well_formed};
+
+/// Each kind of event, with the block that it causes, keeps the relation between the source's music and the output's.
+pub fn bend_follows()
+    ensures kept { EventsKeepFollowing }
+{
+    music_laws();
+    zone_entries_set_zones();
+    receiver_laws();
+    states_stay_well_formed();
+    bring_reaches();
+    messages_only_set();
+    a_receiver_follows();
+}
+
+/// At every position of the file the output plays the notes that the source plays, on the channels that the plan names; the
+/// channel of each pair that is there is at what the pair needs; and each other used channel is silent and as it was left.
+pub fn bend_plays()
+    ensures plays { OutputPlaysTheSource }
+{
+    music_laws();
+    zone_entries_set_zones();
+    receiver_laws();
+    states_stay_well_formed();
+    bring_reaches();
+    messages_only_set();
+    a_receiver_follows();
+}
