@@ -11,10 +11,10 @@ use Rattle.midi_model.specs.Channel.{State}
 use Rattle.midi_model.specs.Notes.{Note, sounds}
 use Rattle.midi_model.specs.Music.{Music, quiet, step, play}
 use Rattle.midi_model.specs.MusicLaws.{AllFade, begun_by, NotesFade}
-use Rattle.midi_model.specs.Receiver.{Receiver, start, receive}
+use Rattle.midi_model.specs.Receiver.{start, after}
 use Rattle.retune_model.specs.Table.{Scaling}
 use Rattle.retune_model.specs.Options.{Options, is_drum_message, has_drums, keeps_drums, is_retuned}
-use Rattle.retune_model.specs.PlaysTheSame.{Pairwise, until, at_tick, retuned_notes, IsSameNote, SoundsTheSame, begins_note, last_note, beginnings_from, beginnings, BeginsAlike, output_key, HasSameNotes, HasSameSound, BeginsTheSame, PlaysTheSameMusic}
+use Rattle.retune_model.specs.PlaysTheSame.{Pairwise, until, at_tick, retuned_notes, IsSameNote, SoundsTheSame, begins_note, last_note, beginnings_from, beginnings, BeginsAlike, output_key, HasSameNotes, HasSameSound, BeginsTheSame, PlaysTheSameMusic, plain_device}
 use Rattle.retune_model.specs.Faults.{Targets}
 use Rattle.retune_model.specs.Ports.{Numbered, unnumbered}
 use Rattle.channel_model.specs.BendOutput.{PortRuns}
@@ -141,29 +141,30 @@ either_begins a b (Says msg) h = either_message a b msg h
 either_begins a b (SysexOf lead bytes) h = refl
 either_begins a b (MetaOf kind bytes) h = refl
 
-either_beginnings : (a b : Bool) (r : Receiver) (es : List MidiEvent) → NoDrums es → beginnings_from (is_retuned a) r es ≡ beginnings_from (is_retuned b) r es
-either_beginnings a b r [] h = refl
-either_beginnings a b r (e ∷ es) h =
-    ap (λ x. cond x (last_note (receive r e) e.track (receive r e).music.notes) [] ++ beginnings_from (is_retuned a) (receive r e) es) (either_begins a b e.what h.0)
-    ∙ ap (λ ys. cond (begins_note (is_retuned b) e.what) (last_note (receive r e) e.track (receive r e).music.notes) [] ++ ys) (either_beginnings a b (receive r e) es h.1)
+either_beginnings : (a b : Bool) (before es : List MidiEvent) → NoDrums es → beginnings_from (is_retuned a) before es ≡ beginnings_from (is_retuned b) before es
+either_beginnings a b before [] h = refl
+either_beginnings a b before (e ∷ es) h =
+    let now : List MidiEvent = before ++ e ∷ [] in
+    ap (λ x. cond x (last_note now e.track (after now).music.notes) [] ++ beginnings_from (is_retuned a) now es) (either_begins a b e.what h.0)
+    ∙ ap (λ ys. cond (begins_note (is_retuned b) e.what) (last_note now e.track (after now).music.notes) [] ++ ys) (either_beginnings a b now es h.1)
 
 -- ---- the three sentences
 
 pub record AreSame (scaling : Scaling) (o : Options) (table : Targets) (drums : Bool) (source out : List MidiEvent) : Type 0 where
   pub notes : HasSameNotes (output_key o table) (is_retuned drums) source out
-  pub sound : HasSameSound scaling o (is_retuned drums) source out
-  pub beginnings : BeginsTheSame scaling o (is_retuned drums) source out
+  pub sound : HasSameSound scaling o (plain_device o) (is_retuned drums) source out
+  pub beginnings : BeginsTheSame scaling o (plain_device o) (is_retuned drums) source out
 
 either_same : NotesFade → (scaling : Scaling) (o : Options) (table : Targets) (a b : Bool) (source out : List MidiEvent) → NoDrums source → NoDrums out → AreSame scaling o table a source out → AreSame scaling o table b source out
 either_same law scaling o table a b source out none_source none_out h = record {
   notes = λ t. subst (λ xs. Pairwise (IsSameNote (output_key o table)) xs (retuned_notes (is_retuned b) (at_tick t out))) (either_notes a b (at_tick t source).music.notes (tick_none law t source none_source))
       (subst (Pairwise (IsSameNote (output_key o table)) (retuned_notes (is_retuned a) (at_tick t source))) (either_notes a b (at_tick t out).music.notes (tick_none law t out none_out)) (h.notes t));
   sound = λ t.
-      let R : Note → Note → Type 0 = λ x y. sounds x ≡ true → SoundsTheSame scaling o (at_tick t source) (at_tick t out) x y in
+      let R : Note → Note → Type 0 = λ x y. sounds x ≡ true → SoundsTheSame scaling o (plain_device o) (until t source) (until t out) x y in
       subst (λ xs. Pairwise R xs (retuned_notes (is_retuned b) (at_tick t out))) (either_notes a b (at_tick t source).music.notes (tick_none law t source none_source))
       (subst (Pairwise R (retuned_notes (is_retuned a) (at_tick t source))) (either_notes a b (at_tick t out).music.notes (tick_none law t out none_out)) (h.sound t));
-  beginnings = subst (λ xs. Pairwise (BeginsAlike scaling o) xs (beginnings (is_retuned b) out)) (either_beginnings a b start source none_source)
-      (subst (Pairwise (BeginsAlike scaling o) (beginnings (is_retuned a) source)) (either_beginnings a b start out none_out) h.beginnings);
+  beginnings = subst (λ xs. Pairwise (BeginsAlike scaling o (plain_device o)) xs (beginnings (is_retuned b) out)) (either_beginnings a b [] source none_source)
+      (subst (Pairwise (BeginsAlike scaling o (plain_device o)) (beginnings (is_retuned a) source)) (either_beginnings a b [] out none_out) h.beginnings);
 }
 
 and_true : (a b : Bool) → b ≡ true → (a && b) ≡ a
@@ -175,7 +176,7 @@ and_none true b h = absurd cc
 and_none false b h = refl
 
 pub plays_same_music : (Good : State → Type 0) → Laws Good → (scaling : Scaling) (o : Options) (table : Targets) (used : ℕ → Bool) → AreUsed o used → (plan : PortRuns) (ns : List Numbered) (last : ℕ) → IsPlanned Good o table used plan ns last → AreTimely ns last →
-    AreSame scaling o table o.keep_drums (unnumbered ns) (port_output o table plan quiet quiet ns) → PlaysTheSameMusic scaling o table (unnumbered ns) (port_output o table plan quiet quiet ns)
+    AreSame scaling o table o.keep_drums (unnumbered ns) (port_output o table plan quiet quiet ns) → PlaysTheSameMusic scaling o table (plain_device o) (unnumbered ns) (port_output o table plan quiet quiet ns)
 plays_same_music Good laws scaling o table used row plan ns last given timely h =
     let source : List MidiEvent = unnumbered ns in
     let out : List MidiEvent = port_output o table plan quiet quiet ns in

@@ -16,6 +16,7 @@ pub mod Leaving
 pub mod Lifting
 pub mod Lists
 pub mod Matching
+pub mod Musical
 pub mod Opening
 pub mod Orderly
 pub mod Outputs

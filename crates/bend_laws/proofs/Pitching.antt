@@ -195,16 +195,18 @@ part_of port c = record { port = port; channel = c }
 
 none_beyond : (part : Part) (r : ℤ) (ps : List Pair) → first_beyond part r ps ≡ None → (p : Pair) → Has ps p → p.part ≡ part → is_within_bend (p.steps +ℤ r) ≡ true
 none_beyond part r [] none p h e = absurd (both_ways false refl h)
-none_beyond part r (q ∷ qs) none p h e = pick (is_same_part q.part part && not (is_within_bend (q.steps +ℤ r))) refl none
+none_beyond part r (q ∷ qs) none p h e =
+    pick (is_same_part q.part part && not (is_within_bend (q.steps +ℤ r))) refl none (λ g m. none_beyond part r qs g p m e)
   where
-    pick : (b : Bool) → (is_same_part q.part part && not (is_within_bend (q.steps +ℤ r))) ≡ b → cond b (Some (q.steps, r)) (first_beyond part r qs) ≡ None → is_within_bend (p.steps +ℤ r) ≡ true
-    pick true f g = absurd cc
-    pick false f g = elim (or_cases (is_same_pair p q) (is_member is_same_pair qs p) h) [
+    pick : (b : Bool) → (is_same_part q.part part && not (is_within_bend (q.steps +ℤ r))) ≡ b → cond b (Some (q.steps, r)) (first_beyond part r qs) ≡ None →
+        (first_beyond part r qs ≡ None → Has qs p → is_within_bend (p.steps +ℤ r) ≡ true) → is_within_bend (p.steps +ℤ r) ≡ true
+    pick true f g rest = absurd cc
+    pick false f g rest = elim (or_cases (is_same_pair p q) (is_member is_same_pair qs p) h) [
       | inl same ↦ (let i : p ≡ q = same_pair p q same in
           let it : is_same_part q.part part ≡ true = ap (λ (x : Pair). is_same_part x.part part) (sym i) ∙ ap (λ x. is_same_part x part) e ∙ part_itself part in
           ap (λ (x : Pair). is_within_bend (x.steps +ℤ r)) i
           ∙ not-false (is_within_bend (q.steps +ℤ r)) (ap (λ b. b && not (is_within_bend (q.steps +ℤ r))) (sym it) ∙ f))
-      | inr m ↦ none_beyond part r qs g p m e
+      | inr m ↦ rest g m
     ]
 
 is_none : (x : Option (ℤ × ℤ)) → is_some x ≡ false → x ≡ None

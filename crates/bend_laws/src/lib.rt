@@ -3,4 +3,4 @@
 
 mod follows;
 
-pub use follows::{bend_follows, bend_plays};
+pub use follows::{bend_follows, bend_plays, bend_sounds};
