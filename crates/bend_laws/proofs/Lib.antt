@@ -1,5 +1,6 @@
 pub mod Altered
 pub mod Beginning
+pub mod Blockwise
 pub mod Bridge
 pub mod Bringing
 pub mod Changing
@@ -8,6 +9,7 @@ pub mod Elsewhere
 pub mod Equal
 pub mod Events
 pub mod Fading
+pub mod Filed
 pub mod Given
 pub mod Hearing
 pub mod Holding
@@ -22,10 +24,14 @@ pub mod Orderly
 pub mod Outputs
 pub mod Passing
 pub mod Pitching
+pub mod Placing
 pub mod Planned
 pub mod Playing
+pub mod Ported
 pub mod Releasing
 pub mod Righting
+pub mod Rows
+pub mod Runs
 pub mod Sending
 pub mod Shown
 pub mod Simulates

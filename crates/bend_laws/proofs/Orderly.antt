@@ -1,18 +1,18 @@
 -- The output's events stand in order, in their tracks, and each track ends once, where the source's do.
-use Rattle.std.proofs.Common.{◌≡◌, ◌-◌, ℕ, ◌<◌, Bool, true, false, cond, eqb, nat_le, nat_lt, List, [], ◌∷◌, ◌++◌, refl, ap, sym, ◌∙◌, subst, map, arith, inl, inr}
+use Rattle.std.proofs.Common.{◌≡◌, ℕ, suc, ◌<◌, Bool, true, false, cond, eqb, nat_le, nat_lt, List, [], ◌∷◌, ◌++◌, refl, ap, sym, ◌∙◌, subst, map, arith, inl, inr}
 use Rattle.std.specs.List.{AllByRecursion}
 use Rattle.std.proofs.lemmas.Bool.{cases_Bool, cond_both, eq-eqb, le-leb}
 use Rattle.mt_base.specs.declared.event.Msg.{Msg}
 use Rattle.mt_base.specs.Midi.{MidiWhat, Says, SysexOf, MetaOf, MidiEvent, channel_of, is_end}
 use Rattle.mt_base.specs.Valid.{IsValidEvent}
 use Rattle.midi_model.specs.Merged.{precedes, InOrder, EndsOnce, of_track, IsPlayable}
-use Rattle.midi_model.specs.Music.{Music, quiet, step, play}
+use Rattle.midi_model.specs.Music.{Music, step}
 use Rattle.retune_model.specs.Options.{Options}
 use Rattle.retune_model.specs.Faults.{Targets, is_part}
-use Rattle.retune_model.specs.Ports.{Numbered, unnumbered}
-use Rattle.channel_model.specs.BendOutput.{placed_at, PortRuns}
-use Rattle.bend_laws.specs.Moments.{Moment, part_causes, port_causes, port_block, moment, moment_at, port_output}
-
+use Rattle.retune_model.specs.Ports.{port_of, ports_after, all_zero}
+use Rattle.channel_model.specs.BendOutput.{placed_at, PortRuns, Played, unplayed}
+use Rattle.bend_laws.specs.Moments.{Moment, part_causes, port_causes, port_block, moment_at}
+use Rattle.bend_laws.proofs.Blockwise.{causes_of, block_of, state_after, file_from, file_output}
 use Rattle.bend_laws.proofs.Lists.{all_always, all_append, all_mapped}
 
 -- ---- places
@@ -22,13 +22,14 @@ pub block_places : (P : ℕ → ℕ → Type 0) (e : MidiEvent) (ws : List MidiW
 block_places P e [] h = tt
 block_places P e (w ∷ ws) h = (h, block_places P e ws h)
 
-output_places : (P : ℕ → ℕ → Type 0) (o : Options) (table : Targets) (plan : PortRuns) (src out : Music) (ns : List Numbered) → AllByRecursion (λ e. P e.tick e.track) (unnumbered ns) → AllByRecursion (λ e. P e.tick e.track) (port_output o table plan src out ns)
-output_places P o table plan src out [] h = tt
-output_places P o table plan src out (n ∷ ns) h =
-    let block : List MidiEvent = port_block plan.number o table (moment_at plan n.position) src out n.event in
-    all_append (λ e. P e.tick e.track) block (port_output o table plan (step src n.event) (play out block) ns)
-    (block_places P n.event (port_causes plan.number o table (moment_at plan n.position) src (step src n.event) out n.event.tick n.event.what) h.0)
-    (output_places P o table plan (step src n.event) (play out block) ns h.1)
+output_places : (P : ℕ → ℕ → Type 0) (o : Options) (table : Targets) (runs : ℕ → PortRuns) (ports : ℕ → ℕ) (k : ℕ) (s : ℕ → Played) (es : List MidiEvent) → AllByRecursion (λ e. P e.tick e.track) es →
+    AllByRecursion (λ e. P e.tick e.track) (file_from o table runs ports k s es)
+output_places P o table runs ports k s [] h = tt
+output_places P o table runs ports k s (e ∷ es) h =
+    let z : ℕ = port_of ports e in
+    all_append (λ x. P x.tick x.track) (block_of o table (runs z) k (s z) e) (file_from o table runs (ports_after ports e) (suc k) (state_after o table runs ports k s e) es)
+    (block_places P e (causes_of o table (runs z) k (s z) e) h.0)
+    (output_places P o table runs (ports_after ports e) (suc k) (state_after o table runs ports k s e) es h.1)
 
 -- ---- order
 
@@ -44,13 +45,13 @@ order_block e [] ys p h = h
 order_block e (w ∷ ws) ys p h =
     (all_append (λ y. precedes e y ≡ true) (placed_at e ws) ys (block_places (λ t track. precedes e (at e t track) ≡ true) e ws (itself e)) p, order_block e ws ys p h)
 
-pub output_order : (o : Options) (table : Targets) (plan : PortRuns) (src out : Music) (ns : List Numbered) → InOrder (unnumbered ns) → InOrder (port_output o table plan src out ns)
-output_order o table plan src out [] h = tt
-output_order o table plan src out (n ∷ ns) h =
-    let block : List MidiEvent = port_block plan.number o table (moment_at plan n.position) src out n.event in
-    order_block n.event (port_causes plan.number o table (moment_at plan n.position) src (step src n.event) out n.event.tick n.event.what) (port_output o table plan (step src n.event) (play out block) ns)
-    (output_places (λ t track. precedes n.event (at n.event t track) ≡ true) o table plan (step src n.event) (play out block) ns h.0)
-    (output_order o table plan (step src n.event) (play out block) ns h.1)
+output_order : (o : Options) (table : Targets) (runs : ℕ → PortRuns) (ports : ℕ → ℕ) (k : ℕ) (s : ℕ → Played) (es : List MidiEvent) → InOrder es → InOrder (file_from o table runs ports k s es)
+output_order o table runs ports k s [] h = tt
+output_order o table runs ports k s (e ∷ es) h =
+    let z : ℕ = port_of ports e in
+    order_block e (causes_of o table (runs z) k (s z) e) (file_from o table runs (ports_after ports e) (suc k) (state_after o table runs ports k s e) es)
+    (output_places (λ t track. precedes e (at e t track) ≡ true) o table runs (ports_after ports e) (suc k) (state_after o table runs ports k s e) es h.0)
+    (output_order o table runs (ports_after ports e) (suc k) (state_after o table runs ports k s e) es h.1)
 
 -- ---- ends of tracks
 
@@ -114,19 +115,19 @@ event_ends t port o table k before out tick track (Says msg) source rest none la
 event_ends t port o table k before out tick track (SysexOf lead bytes) source rest none later h = ends_passed (eqb track t) (let e : MidiEvent = record { tick = tick; track = track; what = SysexOf lead bytes } in e) (of_track t source) (of_track t rest) none later h
 event_ends t port o table k before out tick track (MetaOf kind bytes) source rest none later h = ends_passed (eqb track t) (let e : MidiEvent = record { tick = tick; track = track; what = MetaOf kind bytes } in e) (of_track t source) (of_track t rest) none later h
 
-output_ends : (t : ℕ) (o : Options) (table : Targets) (plan : PortRuns) (src out : Music) (ns : List Numbered) → EndsOnce (of_track t (unnumbered ns)) → EndsOnce (of_track t (port_output o table plan src out ns))
-output_ends t o table plan src out [] h = h
-output_ends t o table plan src out (n ∷ ns) h =
-    let block : List MidiEvent = port_block plan.number o table (moment_at plan n.position) src out n.event in
-    let rest : List MidiEvent = port_output o table plan (step src n.event) (play out block) ns in
-    event_ends t plan.number o table (moment_at plan n.position) src out n.event.tick n.event.track n.event.what (unnumbered ns) rest
-    (λ none. none_there t rest (output_places (λ tick track. eqb track t ≡ false) o table plan (step src n.event) (play out block) ns (is_elsewhere t (unnumbered ns) none)))
-    (output_ends t o table plan (step src n.event) (play out block) ns) h
+output_ends : (t : ℕ) (o : Options) (table : Targets) (runs : ℕ → PortRuns) (ports : ℕ → ℕ) (k : ℕ) (s : ℕ → Played) (es : List MidiEvent) → EndsOnce (of_track t es) → EndsOnce (of_track t (file_from o table runs ports k s es))
+output_ends t o table runs ports k s [] h = h
+output_ends t o table runs ports k s (e ∷ es) h =
+    let z : ℕ = port_of ports e in
+    let rest : List MidiEvent = file_from o table runs (ports_after ports e) (suc k) (state_after o table runs ports k s e) es in
+    event_ends t (runs z).number o table (moment_at (runs z) (suc k)) (s z).source (s z).out e.tick e.track e.what es rest
+    (λ none. none_there t rest (output_places (λ tick track. eqb track t ≡ false) o table runs (ports_after ports e) (suc k) (state_after o table runs ports k s e) es (is_elsewhere t es none)))
+    (output_ends t o table runs (ports_after ports e) (suc k) (state_after o table runs ports k s e) es) h
 
-pub output_playable : (tracks : ℕ) (o : Options) (table : Targets) (plan : PortRuns) (ns : List Numbered) → AllByRecursion IsValidEvent (port_output o table plan quiet quiet ns) → IsPlayable tracks (unnumbered ns) → IsPlayable tracks (port_output o table plan quiet quiet ns)
-output_playable tracks o table plan ns valid h = record {
+pub output_playable : (tracks : ℕ) (o : Options) (table : Targets) (runs : ℕ → PortRuns) (es : List MidiEvent) → AllByRecursion IsValidEvent (file_output o table runs es) → IsPlayable tracks es → IsPlayable tracks (file_output o table runs es)
+output_playable tracks o table runs es valid h = record {
   valid = valid;
-  in_order = output_order o table plan quiet quiet ns h.in_order;
-  in_tracks = output_places (λ tick track. track < tracks) o table plan quiet quiet ns h.in_tracks;
-  ended = λ t low. output_ends t o table plan quiet quiet ns (h.ended t low);
+  in_order = output_order o table runs all_zero 0 (λ z. unplayed) es h.in_order;
+  in_tracks = output_places (λ tick track. track < tracks) o table runs all_zero 0 (λ z. unplayed) es h.in_tracks;
+  ended = λ t low. output_ends t o table runs all_zero 0 (λ z. unplayed) es (h.ended t low);
 }

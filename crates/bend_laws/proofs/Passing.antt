@@ -1,19 +1,19 @@
 -- The system exclusive and meta events of a track are passed on as they are.
-use Rattle.std.proofs.Common.{◌≡◌, ◌-◌, ℕ, Bool, true, false, cond, eqb, List, [], ◌∷◌, ◌++◌, refl, ap, sym, ◌∙◌, map, filter, not}
+use Rattle.std.proofs.Common.{◌≡◌, ℕ, suc, Bool, true, false, cond, eqb, List, [], ◌∷◌, ◌++◌, refl, ap, sym, ◌∙◌, map, filter, not}
 use Rattle.std.specs.List.{AllByRecursion}
 use Rattle.std.proofs.lemmas.Bool.{cond_both}
 use Rattle.std.proofs.lemmas.List.Elements.{filter-append}
 use Rattle.mt_base.specs.declared.event.Msg.{Msg}
 use Rattle.mt_base.specs.Midi.{MidiWhat, Says, SysexOf, MetaOf, Timed, MidiEvent, channel_of}
 use Rattle.midi_model.specs.Merged.{timed, of_track}
-use Rattle.midi_model.specs.Music.{Music, quiet, step, play}
+use Rattle.midi_model.specs.Music.{Music, step}
 use Rattle.retune_model.specs.Options.{Options, bends_notes}
 use Rattle.retune_model.specs.PlaysTheSame.{is_tuning_event, is_no_message, other_events, KeepsOtherEvents}
 use Rattle.retune_model.specs.Faults.{Targets, is_part}
-use Rattle.retune_model.specs.Ports.{Numbered, unnumbered}
-use Rattle.channel_model.specs.BendOutput.{placed_at, PortRuns}
-use Rattle.bend_laws.specs.Moments.{Moment, part_causes, port_causes, port_block, moment, moment_at, port_output}
-
+use Rattle.retune_model.specs.Ports.{port_of, ports_after, all_zero}
+use Rattle.channel_model.specs.BendOutput.{placed_at, PortRuns, Played, unplayed}
+use Rattle.bend_laws.specs.Moments.{Moment, part_causes, port_causes, port_block, moment_at}
+use Rattle.bend_laws.proofs.Blockwise.{block_of, state_after, file_from, file_output}
 use Rattle.bend_laws.proofs.Lists.{map_append, all_always, all_mapped}
 
 -- the events of a track of which a test holds
@@ -48,17 +48,18 @@ block_other port o table k before out t place (Says msg) track =
 block_other port o table k before out t place (SysexOf lead bytes) track = refl
 block_other port o table k before out t place (MetaOf kind bytes) track = refl
 
-other_same : (o : Options) (table : Targets) (plan : PortRuns) (src out : Music) (ns : List Numbered) (track : ℕ) → other_events track (port_output o table plan src out ns) ≡ other_events track (unnumbered ns)
-other_same o table plan src out [] track = refl
-other_same o table plan src out (n ∷ ns) track =
-    let block : List MidiEvent = port_block plan.number o table (moment_at plan n.position) src out n.event in
-    let rest : List MidiEvent = port_output o table plan (step src n.event) (play out block) ns in
+other_same : (o : Options) (table : Targets) (runs : ℕ → PortRuns) (ports : ℕ → ℕ) (k : ℕ) (s : ℕ → Played) (es : List MidiEvent) (track : ℕ) → other_events track (file_from o table runs ports k s es) ≡ other_events track es
+other_same o table runs ports k s [] track = refl
+other_same o table runs ports k s (e ∷ es) track =
+    let z : ℕ = port_of ports e in
+    let block : List MidiEvent = block_of o table (runs z) k (s z) e in
+    let rest : List MidiEvent = file_from o table runs (ports_after ports e) (suc k) (state_after o table runs ports k s e) es in
     kept_append is_no_message track block rest
-    ∙ ap (λ xs. xs ++ kept is_no_message track rest) (block_other plan.number o table (moment_at plan n.position) src out n.event.tick n.event.track n.event.what track)
-    ∙ ap (λ ys. kept is_no_message track (n.event ∷ []) ++ ys) (other_same o table plan (step src n.event) (play out block) ns track)
-    ∙ sym (kept_append is_no_message track (n.event ∷ []) (unnumbered ns))
+    ∙ ap (λ xs. xs ++ kept is_no_message track rest) (block_other (runs z).number o table (moment_at (runs z) (suc k)) (s z).source (s z).out e.tick e.track e.what track)
+    ∙ ap (λ ys. kept is_no_message track (e ∷ []) ++ ys) (other_same o table runs (ports_after ports e) (suc k) (state_after o table runs ports k s e) es track)
+    ∙ sym (kept_append is_no_message track (e ∷ []) es)
 
-pub keeps_all_others : (o : Options) (table : Targets) (plan : PortRuns) (ns : List Numbered) → bends_notes o.route ≡ true → KeepsOtherEvents o (unnumbered ns) (port_output o table plan quiet quiet ns)
-keeps_all_others o table plan ns bends track =
-    let xs : List Timed = other_events track (port_output o table plan quiet quiet ns) in
-    ap (λ b. cond b xs (filter (λ (e : Timed). not (is_tuning_event e.what)) xs)) bends ∙ other_same o table plan quiet quiet ns track
+pub keeps_all_others : (o : Options) (table : Targets) (runs : ℕ → PortRuns) (es : List MidiEvent) → bends_notes o.route ≡ true → KeepsOtherEvents o es (file_output o table runs es)
+keeps_all_others o table runs es bends track =
+    let xs : List Timed = other_events track (file_output o table runs es) in
+    ap (λ b. cond b xs (filter (λ (e : Timed). not (is_tuning_event e.what)) xs)) bends ∙ other_same o table runs all_zero 0 (λ z. unplayed) es track

@@ -5,4 +5,6 @@ pub mod Positions
 pub mod Simulation
 pub mod Left
 pub mod Ticks
+pub mod Bent
 pub mod Laws
+pub mod FileLaws

@@ -1,0 +1,88 @@
+-- The sentences of a file: those of its ports, and those of all its events.
+use Rattle.std.proofs.Common.{◌≡◌, ◌≤◌, ℕ, Bool, true, List, refl, ap, sym, ◌∙◌, subst, length}
+use Rattle.std.specs.List.{AllByRecursion}
+use Rattle.mt_base.specs.Midi.{MidiEvent}
+use Rattle.mt_base.specs.Valid.{IsValidEvent}
+use Rattle.midi_model.specs.WellFormed.{IsWellFormed}
+use Rattle.midi_model.specs.Merged.{IsPlayable}
+use Rattle.midi_model.specs.Music.{quiet, play}
+use Rattle.retune_model.specs.Table.{Scaling}
+use Rattle.retune_model.specs.Options.{Options}
+use Rattle.retune_model.specs.Ports.{Numbered, of_port, events_on, unnumbered, all_zero}
+use Rattle.retune_model.specs.PlaysTheSame.{plain_device, PlayTheSame, PlaysTheSameMusic, KeepsDrums}
+use Rattle.retune_model.specs.Faults.{Targets}
+use Rattle.retune_model.specs.Pairs.{Pair}
+use Rattle.channel_model.specs.Laws.{BentPorts}
+use Rattle.channel_model.specs.BendOutput.{PortRuns, runs_on, bend_output}
+use Rattle.bend_laws.specs.Moments.{port_output}
+use Rattle.bend_laws.specs.Follows.{AreUsed}
+use Rattle.bend_laws.specs.Positions.{both_at, IsPlanned, up_to_position}
+use Rattle.bend_laws.specs.Simulation.{PlaysAt}
+use Rattle.bend_laws.specs.Ticks.{AreTimely}
+use Rattle.bend_laws.specs.Bent.{uses, IsBent, IsTuned}
+use Rattle.bend_laws.proofs.Given.{Laws}
+use Rattle.bend_laws.proofs.Shown.{plays_at}
+use Rattle.bend_laws.proofs.Outputs.{out_is, source_is_played, blocks_are}
+use Rattle.bend_laws.proofs.Righting.{output_valid, keeps_all_drums}
+use Rattle.bend_laws.proofs.Musical.{MusicLaws, same_music}
+use Rattle.bend_laws.proofs.Passing.{keeps_all_others}
+use Rattle.bend_laws.proofs.Orderly.{output_playable}
+use Rattle.bend_laws.proofs.Rows.{row_used}
+use Rattle.bend_laws.proofs.Placing.{all_of_ports}
+use Rattle.bend_laws.proofs.Ported.{PortFacts, timely_port, planned_port}
+
+-- a port of the file, with its plan
+record OnPort (o : Options) (allowed : ℕ → Bool) (table : Targets) (es : List MidiEvent) (need : ℕ → ℕ) (channel : ℕ → ℕ → Pair → ℕ) (z : ℕ) : Type 0 where
+  used : AreUsed o (uses o allowed (need z))
+  planned : IsPlanned IsWellFormed o table (uses o allowed (need z)) (runs_on o table es channel z) (of_port z es) (length es)
+  timely : AreTimely (of_port z es) (length es)
+
+on_port : PortFacts → (o : Options) (allowed : ℕ → Bool) (table : Targets) (es : List MidiEvent) (need : ℕ → ℕ) (channel : ℕ → ℕ → Pair → ℕ) → IsBent o allowed table es need channel → (z : ℕ) → OnPort o allowed table es need channel z
+on_port f o allowed table es need channel b z = record {
+  used = row_used o allowed (need z) b.route;
+  planned = planned_port f o allowed table es need channel b z;
+  timely = timely_port f.timed o allowed table es need channel b z;
+}
+
+pub port_plays : Laws IsWellFormed → PortFacts → (o : Options) (allowed : ℕ → Bool) (table : Targets) (es : List MidiEvent) (need : ℕ → ℕ) (channel : ℕ → ℕ → Pair → ℕ) → IsBent o allowed table es need channel → (z k : ℕ) → k ≤ length es →
+    (let runs = runs_on o table es channel z in PlaysAt o table (uses o allowed (need z)) runs (of_port z es) k (both_at o table runs (of_port z es) k))
+port_plays laws f o allowed table es need channel b z k low =
+    let p : OnPort o allowed table es need channel z = on_port f o allowed table es need channel b z in
+    plays_at IsWellFormed laws o table (uses o allowed (need z)) p.used (runs_on o table es channel z) (of_port z es) (length es) p.planned k low
+
+pub port_blocks : PortFacts → (o : Options) (allowed : ℕ → Bool) (table : Targets) (es : List MidiEvent) (need : ℕ → ℕ) (channel : ℕ → ℕ → Pair → ℕ) → IsBent o allowed table es need channel → (z k : ℕ) →
+    (let runs = runs_on o table es channel z in
+    (both_at o table runs (of_port z es) k).out ≡ play quiet (port_output o table runs quiet quiet (up_to_position k (of_port z es))))
+port_blocks f o allowed table es need channel b z k =
+    let runs : PortRuns = runs_on o table es channel z in
+    out_is o table runs (of_port z es) k ∙ ap (play quiet) (blocks_are o table runs (of_port z es) k (on_port f o allowed table es need channel b z).timely.rising)
+
+-- the output of the file, by its ports
+abbrev written : Options → Targets → (ℕ → ℕ → Pair → ℕ) → List MidiEvent → ℕ → List MidiEvent
+written o table channel es z = port_output o table (runs_on o table es channel z) quiet quiet (of_port z es)
+
+pub same_file : MusicLaws → PortFacts → BentPorts → (o : Options) (allowed : ℕ → Bool) (table : Targets) (es : List MidiEvent) (need : ℕ → ℕ) (channel : ℕ → ℕ → Pair → ℕ) → IsBent o allowed table es need channel →
+    (scaling : Scaling) → IsTuned scaling o table → PlayTheSame scaling o table (plain_device o) es (bend_output o table channel es)
+same_file m f ports o allowed table es need channel b scaling tuned =
+    let is : (z : ℕ) → events_on z (bend_output o table channel es) ≡ written o table channel es z = λ z. ports o table channel es z in
+    record {
+      music = λ z. (
+          let p : OnPort o allowed table es need channel z = on_port f o allowed table es need channel b z in
+          subst (PlaysTheSameMusic scaling o table (plain_device o) (events_on z es)) (sym (is z))
+          (same_music m scaling o table (uses o allowed (need z)) p.used (runs_on o table es channel z) (of_port z es) (length es) p.planned
+          (record { timely = p.timely; bounds = tuned.bounds; few_terms = tuned.few_terms; range = tuned.range })));
+      others = keeps_all_others o table (runs_on o table es channel) es b.sound.bends;
+      drums = λ z. (
+          let p : OnPort o allowed table es need channel z = on_port f o allowed table es need channel b z in
+          subst (KeepsDrums o (events_on z es)) (sym (is z))
+          (keeps_all_drums IsWellFormed m.laws o table (uses o allowed (need z)) p.used (runs_on o table es channel z) (of_port z es) (length es) p.planned p.timely));
+    }
+
+pub file_playable : Laws IsWellFormed → PortFacts → BentPorts → (o : Options) (allowed : ℕ → Bool) (table : Targets) (es : List MidiEvent) (need : ℕ → ℕ) (channel : ℕ → ℕ → Pair → ℕ) → IsBent o allowed table es need channel →
+    (tracks : ℕ) → IsPlayable tracks es → IsPlayable tracks (bend_output o table channel es)
+file_playable laws f ports o allowed table es need channel b tracks playable =
+    let valid : (z : ℕ) → AllByRecursion IsValidEvent (events_on z (bend_output o table channel es)) = λ z. (
+    let p : OnPort o allowed table es need channel z = on_port f o allowed table es need channel b z in
+    subst (AllByRecursion IsValidEvent) (sym (ports o table channel es z))
+    (output_valid IsWellFormed laws o table (uses o allowed (need z)) p.used (runs_on o table es channel z) (of_port z es) (length es) p.planned p.timely)) in
+    output_playable tracks o table (runs_on o table es channel) es (all_of_ports IsValidEvent all_zero 0 (bend_output o table channel es) valid) playable

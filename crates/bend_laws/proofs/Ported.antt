@@ -1,0 +1,232 @@
+-- What is asked of the runs of a port holds of a source without a fault and a plan of its port.
+use Rattle.std.proofs.Common.{◌≡◌, ◌⊎◌, ◌<◌, ◌≤◌, ℕ, zero, suc, Bool, true, false, cond, List, [], ◌∷◌, Option, Some, None, refl, ap, sym, ◌∙◌, subst, filter, length, get_or, arith, inl, inr}
+use Rattle.std.specs.List.{AllByRecursion, IsDistinct}
+use Rattle.std.specs.Set.{is_member}
+use Rattle.std.proofs.lemmas.Bool.{cases_Bool, both_ways, or_cases}
+use Rattle.mt_base.specs.declared.event.Msg.TheVariants.{NoteOn, NoteOff, KeyPressure, Control, Program, Pressure, Bend}
+use Rattle.mt_base.specs.Valid.{IsValidEvent}
+use Rattle.mt_base.specs.Midi.{MidiWhat, Says, SysexOf, MetaOf, MidiEvent}
+use Rattle.midi_model.specs.WellFormed.{IsWellFormed}
+use Rattle.midi_model.specs.Notes.{Note, sounds}
+use Rattle.midi_model.specs.Music.{Music}
+use Rattle.retune_model.specs.Table.{BendTarget}
+use Rattle.retune_model.specs.Options.{Options}
+use Rattle.retune_model.specs.Ports.{Numbered, PortEvents, AreTimed, all_zero, of_port, port_at, unnumbered, music_at, event_at, resets}
+use Rattle.retune_model.specs.PlaysTheSame.{bend_target_if}
+use Rattle.retune_model.specs.Faults.{Targets, is_part, target_of}
+use Rattle.retune_model.specs.SourceFaults.{kind_in, kind_behind}
+use Rattle.retune_model.specs.Pairs.{Pair, is_same_pair, pair_if}
+use Rattle.retune_model.specs.Rests.{notes_at, nobody, steps_of, pair_of, pairs_at, held_at, begun_pair, begun_pairs, IsAimedPort}
+use Rattle.retune_model.specs.RestLaws.{PairsAreOfNotes, OneRunBegins, HeldWasThere, SoundingIsHeld, HeldOrBegun, ResetsEndAll}
+use Rattle.retune_model.specs.Need.{ArePairs}
+use Rattle.retune_model.specs.Runs.{since, OneBegins, TakesFree}
+use Rattle.retune_model.specs.PortNeed.{pairs_on, held_on}
+use Rattle.retune_model.specs.PortLaws.{PortsAreTimed}
+use Rattle.retune_model.specs.FaultLaws.{SoundPortsAreAimed, FaultlessPorts}
+use Rattle.channel_model.specs.Rows.{used_row, allowed_row}
+use Rattle.channel_model.specs.Laws.{ShortestIsFree}
+use Rattle.channel_model.specs.BendOutput.{pair_with, PortRuns, runs_on}
+use Rattle.state_laws.specs.StateLaws.{StaysWellFormedWith}
+use Rattle.bend_laws.specs.Follows.{Has, IsAmong, SoundAmong, Begins}
+use Rattle.bend_laws.specs.Positions.{port_event, source_at, BeginsIf, IsPlanned}
+use Rattle.bend_laws.specs.Ticks.{AreTimely}
+use Rattle.bend_laws.specs.Bent.{uses, IsBentPort, IsBent}
+use Rattle.bend_laws.proofs.Equal.{same_pair}
+use Rattle.bend_laws.proofs.Lists.{all_weaker}
+use Rattle.bend_laws.proofs.Outputs.{events_if, source_played}
+use Rattle.bend_laws.proofs.Bridge.{OneSounds, ReceiversStay}
+use Rattle.bend_laws.proofs.Wellness.{AreValidTo, wanted_at}
+use Rattle.bend_laws.proofs.Rows.{lane_used, lane_apart}
+use Rattle.bend_laws.proofs.Runs.{since_kept, HasPlaces, has_places}
+use Rattle.bend_laws.proofs.Placing.{event_is, StandsAt, at_place, reset_here, all_of_port, port_within, port_order}
+
+-- nothing stands twice among the pairs that are held
+abbrev pub HeldStandOnce : Type 0
+HeldStandOnce = (o : Options) (part : ℕ → Bool) (table : Targets) (port : PortEvents) (k : ℕ) → IsDistinct is_same_pair (held_at o part table port k)
+
+-- what is cited of pairs, faults and channels
+pub record PortFacts : Type 0 where
+  pub within : HeldWasThere
+  pub sounding : SoundingIsHeld
+  pub next : HeldOrBegun
+  pub once : HeldStandOnce
+  pub pairs : PairsAreOfNotes
+  pub one : OneRunBegins
+  pub reset : ResetsEndAll
+  pub aimed : SoundPortsAreAimed
+  pub fine : FaultlessPorts
+  pub timed : PortsAreTimed
+  pub free : ShortestIsFree
+  pub one_sounds : OneSounds
+  pub stay : ReceiversStay
+  pub given : StaysWellFormedWith
+
+-- ---- notes by their numbers
+
+by_index : (P : Note → Type 0) (xs : List Note) → ((i : ℕ) → i < length xs → P (get_or xs i nobody)) → AllByRecursion P xs
+by_index P [] h = tt
+by_index P (x ∷ xs) h = (h 0 (omega arith), by_index P xs (λ i l. h (suc i) (omega (arith, l))))
+
+at_number : (P : Note → Type 0) (xs : List Note) (i : ℕ) → AllByRecursion P xs → i < length xs → P (get_or xs i nobody)
+at_number P [] i h l = absurd (omega (arith, l))
+at_number P (x ∷ xs) zero h l = h.0
+at_number P (x ∷ xs) (suc i) h l = at_number P xs i h.1 (omega (arith, l))
+
+-- what holds of each note of some parts
+unfiltered : (part : ℕ → Bool) (P : Note → Type 0) (ns : List Note) → AllByRecursion P (filter (λ (n : Note). part n.channel) ns) → AllByRecursion (λ n. part n.channel ≡ true → P n) ns
+unfiltered part P [] h = tt
+unfiltered part P (n ∷ ns) h = pick (part n.channel) refl h (unfiltered part P ns)
+  where
+    rest : List Note
+    rest = filter (λ (x : Note). part x.channel) ns
+
+    pick : (b : Bool) → part n.channel ≡ b → AllByRecursion P (cond b (n ∷ rest) rest) → (AllByRecursion P rest → AllByRecursion (λ x. part x.channel ≡ true → P x) ns) →
+        (part n.channel ≡ true → P n) × AllByRecursion (λ x. part x.channel ≡ true → P x) ns
+    pick true e g f = ((λ p. g.0), f g.1)
+    pick false e g f = ((λ p. absurd (both_ways (part n.channel) e p)), f g)
+
+of_parts : (part : ℕ → Bool) (ns : List Note) → AllByRecursion (λ (n : Note). part n.channel ≡ true) (filter (λ (n : Note). part n.channel) ns)
+of_parts part [] = tt
+of_parts part (n ∷ ns) = pick (part n.channel) refl (of_parts part ns)
+  where
+    rest : List Note
+    rest = filter (λ (x : Note). part x.channel) ns
+
+    pick : (b : Bool) → part n.channel ≡ b → AllByRecursion (λ (x : Note). part x.channel ≡ true) rest → AllByRecursion (λ (x : Note). part x.channel ≡ true) (cond b (n ∷ rest) rest)
+    pick true e g = (e, g)
+    pick false e g = g
+
+-- ---- what sounds holds its channel
+
+among_if : (z : ℕ) (ps : List Pair) (c : ℕ) (x : Option BendTarget) → (let p : Pair = record { part = record { port = z; channel = c }; steps = steps_of x } in Has ps p) → IsAmong z ps c x
+among_if z ps c None h = tt
+among_if z ps c (Some t) h = h
+
+among_more : (z : ℕ) (ps qs : List Pair) → ((p : Pair) → Has ps p → Has qs p) → (c : ℕ) (x : Option BendTarget) → IsAmong z ps c x → IsAmong z qs c x
+among_more z ps qs f c None h = tt
+among_more z ps qs f c (Some t) h = f (pair_with z c t) h
+
+sound_held : SoundingIsHeld → (o : Options) (table : Targets) (port : PortEvents) → IsAimedPort o (is_part o) table port → (k : ℕ) →
+    SoundAmong port.number o table (held_at o (is_part o) table port (suc k)) (music_at port.events k).notes
+sound_held law o table port aimed k =
+    let ps : List Pair = held_at o (is_part o) table port (suc k) in
+    let z : ℕ = port.number in
+    all_weaker (λ n. is_part o n.channel ≡ true → sounds n ≡ true → Has ps (pair_of z o table n)) (λ n. is_part o n.channel ≡ true → sounds n ≡ true → IsAmong z ps n.channel (target_of o table n))
+    (λ n h part s. among_if z ps n.channel (target_of o table n) (h part s)) (music_at port.events k).notes
+    (unfiltered (is_part o) (λ n. sounds n ≡ true → Has ps (pair_of z o table n)) (music_at port.events k).notes
+    (by_index (λ n. sounds n ≡ true → Has ps (pair_of z o table n)) (notes_at (is_part o) port.events k) (λ i l s. law o (is_part o) table port aimed k i (l, s))))
+
+sound_there : HeldWasThere → SoundingIsHeld → (o : Options) (table : Targets) (port : PortEvents) → IsAimedPort o (is_part o) table port → (k : ℕ) →
+    SoundAmong port.number o table (pairs_at o (is_part o) table port k) (music_at port.events k).notes
+sound_there within law o table port aimed k =
+    let ps : List Pair = held_at o (is_part o) table port (suc k) in
+    let qs : List Pair = pairs_at o (is_part o) table port k in
+    all_weaker (λ n. is_part o n.channel ≡ true → sounds n ≡ true → IsAmong port.number ps n.channel (target_of o table n))
+    (λ n. is_part o n.channel ≡ true → sounds n ≡ true → IsAmong port.number qs n.channel (target_of o table n))
+    (λ n h part s. among_more port.number ps qs (λ p i. within o (is_part o) table port aimed k p i) n.channel (target_of o table n) (h part s))
+    (music_at port.events k).notes (sound_held law o table port aimed k)
+
+-- ---- what an event begins
+
+begun_if : (z : ℕ) (o : Options) (t c j v : ℕ) (table : Targets) (x : Option BendTarget) (p : Pair) → bend_target_if o.range (table j t) ≡ x → (b : Bool) → is_part o c ≡ b → Has (cond b (pair_if z c x []) []) p →
+    Begins z o table t (Says (NoteOn c j (suc v))) p
+begun_if z o t c j v table x p aim false part h = absurd (both_ways false refl h)
+begun_if z o t c j v table None p aim true part h = absurd (both_ways false refl h)
+begun_if z o t c j v table (Some y) p aim true part h = (part, (y, aim, elim (or_cases (is_same_pair p (pair_with z c y)) false h) [
+  | inl e ↦ same_pair p (pair_with z c y) e
+  | inr e ↦ absurd (both_ways false refl e)
+]))
+
+begins_pair : (z : ℕ) (o : Options) (table : Targets) (t : ℕ) (w : MidiWhat) (p : Pair) → Has (begun_pair z o (is_part o) table t w) p → Begins z o table t w p
+begins_pair z o table t (Says (NoteOn c j zero)) p h = absurd (both_ways false refl h)
+begins_pair z o table t (Says (NoteOn c j (suc v))) p h = begun_if z o t c j v table (bend_target_if o.range (table j t)) p refl (is_part o c) refl h
+begins_pair z o table t (Says (NoteOff c j v)) p h = absurd (both_ways false refl h)
+begins_pair z o table t (Says (KeyPressure c j v)) p h = absurd (both_ways false refl h)
+begins_pair z o table t (Says (Control c n v)) p h = absurd (both_ways false refl h)
+begins_pair z o table t (Says (Program c x)) p h = absurd (both_ways false refl h)
+begins_pair z o table t (Says (Pressure c v)) p h = absurd (both_ways false refl h)
+begins_pair z o table t (Says (Bend c v)) p h = absurd (both_ways false refl h)
+begins_pair z o table t (SysexOf lead bytes) p h = absurd (both_ways false refl h)
+begins_pair z o table t (MetaOf kind bytes) p h = absurd (both_ways false refl h)
+
+begins_one : (z : ℕ) (o : Options) (table : Targets) (x : Option MidiEvent) (p : Pair) → Has (begun_pairs z o (is_part o) table (events_if x)) p → BeginsIf z o table x p
+begins_one z o table None p h = both_ways false refl h
+begins_one z o table (Some e) p h = begins_pair z o table e.tick e.what p h
+
+-- ---- the pairs of a port
+
+record IsOfPort (o : Options) (z : ℕ) (p : Pair) : Type 0 where
+  port : p.part.port ≡ z
+  part : is_part o p.part.channel ≡ true
+
+of_port_pair : PairsAreOfNotes → (o : Options) (table : Targets) (port : PortEvents) (last : ℕ) → IsAimedPort o (is_part o) table port → (k : ℕ) (p : Pair) → k ≤ last → Has (pairs_at o (is_part o) table port k) p → IsOfPort o port.number p
+of_port_pair law o table port last aimed k p low h =
+    let all : List Note = notes_at (is_part o) port.events last in
+    let it = (law o (is_part o) table port last aimed).each k p low h in
+    subst (IsOfPort o port.number) it.3 (record {
+      port = refl;
+      part = at_number (λ n. is_part o n.channel ≡ true) all it.0 (of_parts (is_part o) (music_at port.events last).notes) it.1;
+    })
+
+-- ---- a port of a source
+
+pub timely_port : PortsAreTimed → (o : Options) (allowed : ℕ → Bool) (table : Targets) (es : List MidiEvent) (need : ℕ → ℕ) (channel : ℕ → ℕ → Pair → ℕ) → IsBent o allowed table es need channel → (z : ℕ) → AreTimely (of_port z es) (length es)
+timely_port timed o allowed table es need channel b z =
+    record { rising = (timed z es b.sound.in_order).ascend; within = port_within z es; in_order = port_order 0 z all_zero 0 es b.sound.in_order }
+
+valid_port : (es : List MidiEvent) → AllByRecursion IsValidEvent es → (z last : ℕ) → AreValidTo (of_port z es) last
+valid_port es v z last k e low is =
+    let s : StandsAt (λ n. IsValidEvent n.event) (suc k) e = at_place (λ n. IsValidEvent n.event) (of_port z es) (each (of_port z es) (all_of_port IsValidEvent z all_zero 0 es v)) (suc k) e is in
+    subst IsValidEvent s.event s.holds
+  where
+    each : (ns : List Numbered) → AllByRecursion IsValidEvent (unnumbered ns) → AllByRecursion (λ (n : Numbered). IsValidEvent n.event) ns
+    each [] h = tt
+    each (n ∷ ns) h = (h.0, each ns h.1)
+
+pub planned_port : PortFacts → (o : Options) (allowed : ℕ → Bool) (table : Targets) (es : List MidiEvent) (need : ℕ → ℕ) (channel : ℕ → ℕ → Pair → ℕ) → IsBent o allowed table es need channel → (z : ℕ) →
+    IsPlanned IsWellFormed o table (uses o allowed (need z)) (runs_on o table es channel z) (of_port z es) (length es)
+planned_port f o allowed table es need channel b z =
+    let part : ℕ → Bool = is_part o in
+    let port : PortEvents = port_at es z in
+    let ns : List Numbered = of_port z es in
+    let last : ℕ = length es in
+    let n : ℕ = need z in
+    let it : IsBentPort o allowed table es z n (channel z) = b.ports z in
+    let at : ℕ → List Pair = pairs_on o part table es z in
+    let used : List ℕ = used_row o allowed n in
+    let aimed : IsAimedPort o part table port = f.aimed o part table es z (λ c h. h) b.sound in
+    let rising = (f.timed z es b.sound.in_order).ascend in
+    let src : (k : ℕ) → music_at ns k ≡ source_at ns k = λ k. sym (source_played ns rising k) in
+    let valid : AreValidTo ns last = valid_port es b.valid z last in
+    let one : OneBegins is_same_pair at last = f.one o part table port last aimed in
+    let placed : (k : ℕ) → k ≤ last → HasPlaces at n it.row k = has_places at last n it.row one (f.free o table es z n it.row it.plan.takes) in
+    let of : (k : ℕ) (p : Pair) → k ≤ last → Has (at k) p → IsOfPort o z p = λ k p low h. of_port_pair f.pairs o table port last aimed k p low h in
+    record {
+      valid = valid;
+      faultless = λ k e low is. (
+          let P : Numbered → Type 0 = λ m. (j : ℕ) → m.position ≡ suc j → kind_behind o table false port j m.event ≡ None in
+          let s : StandsAt P (suc k) e = at_place P ns (f.fine o table es z b.sound.faultless) (suc k) e is in
+          let here : kind_behind o table false port k e ≡ None = subst (λ x. kind_behind o table false port k x ≡ None) s.event (s.holds k s.position) in
+          subst (λ m. kind_in z o table e.tick m (source_at ns (suc k)) false (at (suc k)) e.what ≡ None) (src k)
+          (subst (λ m. kind_in z o table e.tick (music_at ns k) m false (at (suc k)) e.what ≡ None) (src (suc k)) here));
+      start = one.none;
+      there = λ k low. subst (λ (m : Music). SoundAmong z o table (at k) m.notes) (src k) (sound_there f.within f.sounding o table port aimed k);
+      held = λ k low. subst (λ (m : Music). SoundAmong z o table (held_on o part table es z (suc k)) m.notes) (src k) (sound_held f.sounding o table port aimed k);
+      once = λ k low. f.once o part table port (suc k);
+      was_there = λ k p low h. f.within o part table port aimed k p h;
+      from = λ k p low h g. (
+          let begins : Has (begun_pairs z o part table (event_at ns (suc k))) p = elim (f.next o part table port aimed k p h) [
+            | inl held ↦ absurd (both_ways (is_member is_same_pair (held_on o part table es z (suc k)) p) g held)
+            | inr begun ↦ begun
+          ] in
+          begins_one z o table (port_event ns (suc k)) p (subst (λ xs. Has (begun_pairs z o part table xs) p) (event_is 0 ns rising (suc k)) begins));
+      kept = λ k p low h g. it.plan.given (suc k) p ∙ ap (λ j. get_or used (it.row j) 0) (since_kept at p k h) ∙ sym (it.plan.given k p);
+      apart = λ k p q low h g e. (placed k low).apart p q h g
+          (lane_apart o allowed n it.plan.within (it.row (since is_same_pair at p k)) (it.row (since is_same_pair at q k)) ((placed k low).below p h) ((placed k low).below q g)
+          (sym (it.plan.given k p) ∙ e ∙ it.plan.given k q));
+      used_at = λ k p low h. subst (λ c. uses o allowed n c ≡ true) (sym (it.plan.given k p)) (lane_used o allowed n it.plan.within (it.row (since is_same_pair at p k)) ((placed k low).below p h));
+      parts = λ k p low h. (of k p low h).part;
+      ports = λ k p low h. (of k p low h).port;
+      good = λ k p low. wanted_at f.one_sounds f.stay f.given o table b.range ns last valid k low p;
+      reset = λ k e low is r. f.reset o part table port k (reset_here ns (suc k) e is (ap resets r));
+    }

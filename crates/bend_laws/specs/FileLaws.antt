@@ -1,0 +1,44 @@
+-- What the bend route writes for a file, where each port has a plan.
+use Rattle.std.specs.Prelude.{◌≡◌, ◌≤◌, ℕ, Bool, List, length}
+use Rattle.mt_base.specs.Midi.{MidiEvent}
+use Rattle.midi_model.specs.Merged.{IsPlayable}
+use Rattle.midi_model.specs.Music.{quiet, play}
+use Rattle.retune_model.specs.Table.{Scaling}
+use Rattle.retune_model.specs.Options.{Options}
+use Rattle.retune_model.specs.Ports.{of_port, music_at}
+use Rattle.retune_model.specs.PlaysTheSame.{plain_device, PlayTheSame}
+use Rattle.retune_model.specs.Faults.{Targets}
+use Rattle.retune_model.specs.Pairs.{Pair}
+use Rattle.channel_model.specs.BendOutput.{runs_on, bend_output}
+use Rattle.bend_laws.specs.Moments.{port_output}
+use Rattle.bend_laws.specs.Positions.{both_at, up_to_position}
+use Rattle.bend_laws.specs.Simulation.{PlaysAt}
+use Rattle.bend_laws.specs.Bent.{uses, IsBent, IsTuned}
+
+-- a sentence about a source with a plan for each of its ports
+abbrev pub OfBent : (Options → (ℕ → Bool) → Targets → List MidiEvent → (ℕ → ℕ) → (ℕ → ℕ → Pair → ℕ) → Type 0) → Type 0
+OfBent P = (o : Options) (allowed : ℕ → Bool) (table : Targets) (es : List MidiEvent) (need : ℕ → ℕ) (channel : ℕ → ℕ → Pair → ℕ) → IsBent o allowed table es need channel → P o allowed table es need channel
+
+-- at every position of the file each port plays what the source's does
+abbrev pub PortsPlay : Type 0
+PortsPlay = OfBent (λ o allowed table es need channel. (z k : ℕ) → k ≤ length es →
+    (let runs = runs_on o table es channel z in PlaysAt o table (uses o allowed (need z)) runs (of_port z es) k (both_at o table runs (of_port z es) k)))
+
+-- the musics there are those of the port's events up to the position, and of what is written for them
+abbrev pub PortsAreTheirEvents : Type 0
+PortsAreTheirEvents = OfBent (λ o allowed table es need channel. (z k : ℕ) →
+    (both_at o table (runs_on o table es channel z) (of_port z es) k).source ≡ music_at (of_port z es) k)
+
+abbrev pub PortsAreTheirBlocks : Type 0
+PortsAreTheirBlocks = OfBent (λ o allowed table es need channel. (z k : ℕ) →
+    (let runs = runs_on o table es channel z in
+    (both_at o table runs (of_port z es) k).out ≡ play quiet (port_output o table runs quiet quiet (up_to_position k (of_port z es)))))
+
+-- so the whole plays the same
+abbrev pub BentPlaysTheSame : Type 0
+BentPlaysTheSame = OfBent (λ o allowed table es need channel. (scaling : Scaling) → IsTuned scaling o table →
+    PlayTheSame scaling o table (plain_device o) es (bend_output o table channel es))
+
+-- and can be written as a file with the source's tracks
+abbrev pub BentIsPlayable : Type 0
+BentIsPlayable = OfBent (λ o allowed table es need channel. (tracks : ℕ) → IsPlayable tracks es → IsPlayable tracks (bend_output o table channel es))

@@ -1,0 +1,43 @@
+//! What the bend route writes for a file.
+
+ghost use Rattle.bend_laws.specs.FileLaws.{PortsPlay, PortsAreTheirEvents, PortsAreTheirBlocks, BentPlaysTheSame, BentIsPlayable};
+
+use channel_model::{best_is_free, outputs_apart};
+use midi_model::{music_laws, parameter_laws, receiver_laws};
+use mt_base::laws::{exact, sums, wider};
+use retune_model::{
+    elsewhere, held_laws, position_laws, rests_are_runs, sound_sources, zone_entries_set_zones,
+};
+use state_laws::{a_receiver_follows, bring_reaches, messages_only_set, states_stay_well_formed};
+
+/// For a source without a fault and a plan of each of its ports, for any tail: at every position of the file each port plays the notes
+/// that the source plays, one by one, on the channels of the plan; the channel of each pair that is there is at what the pair needs;
+/// and each other channel of the used row is silent and as it was left. So the whole plays the same: on every port and at every tick
+/// the same notes, each within half a step of a bend and a thousandth of a cent of its source pitch, and right from its beginning; all
+/// other events and kept drums are passed on. And it can be written as a file with the source's tracks.
+pub fn bend_plays_the_same()
+    ensures ports { PortsPlay }
+    ensures source { PortsAreTheirEvents }
+    ensures out { PortsAreTheirBlocks }
+    ensures same { BentPlaysTheSame }
+    ensures playable { BentIsPlayable }
+{
+    best_is_free();
+    outputs_apart();
+    elsewhere();
+    held_laws();
+    position_laws();
+    rests_are_runs();
+    sound_sources();
+    zone_entries_set_zones();
+    music_laws();
+    parameter_laws();
+    receiver_laws();
+    sums();
+    exact();
+    wider();
+    states_stay_well_formed();
+    bring_reaches();
+    messages_only_set();
+    a_receiver_follows();
+}
