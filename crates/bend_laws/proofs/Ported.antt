@@ -1,8 +1,8 @@
 -- What is asked of the runs of a port holds of a source without a fault and a plan of its port.
-use Rattle.std.proofs.Common.{◌≡◌, ◌⊎◌, ◌<◌, ◌≤◌, ℕ, zero, suc, Bool, true, false, cond, List, [], ◌∷◌, Option, Some, None, refl, ap, sym, ◌∙◌, subst, filter, length, get_or, arith, inl, inr}
+use Rattle.std.proofs.Common.{◌≡◌, ◌⊎◌, ◌<◌, ◌≤◌, ◌&&◌, ℕ, zero, suc, ℤ, pos, negsuc, nat_eq, nat_lt, Bool, true, false, cond, List, [], ◌∷◌, Option, Some, None, refl, ap, sym, ◌∙◌, subst, filter, length, get_or, arith, inl, inr}
 use Rattle.std.specs.List.{AllByRecursion, IsDistinct}
 use Rattle.std.specs.Set.{is_member}
-use Rattle.std.proofs.lemmas.Bool.{cases_Bool, both_ways, or_cases}
+use Rattle.std.proofs.lemmas.Bool.{cases_Bool, both_ways, or_cases, and_left, and_right, and_parts, ne_eqb, ltb-true}
 use Rattle.mt_base.specs.declared.event.Msg.TheVariants.{NoteOn, NoteOff, KeyPressure, Control, Program, Pressure, Bend}
 use Rattle.mt_base.specs.Valid.{IsValidEvent}
 use Rattle.mt_base.specs.Midi.{MidiWhat, Says, SysexOf, MetaOf, MidiEvent}
@@ -13,9 +13,10 @@ use Rattle.retune_model.specs.Table.{BendTarget}
 use Rattle.retune_model.specs.Options.{Options}
 use Rattle.retune_model.specs.Ports.{Numbered, PortEvents, AreTimed, all_zero, of_port, port_at, unnumbered, music_at, event_at, resets}
 use Rattle.retune_model.specs.PlaysTheSame.{bend_target_if}
-use Rattle.retune_model.specs.Faults.{Targets, is_part, target_of}
+use Rattle.retune_model.specs.Faults.{Targets, is_part, int_eq, target_of}
 use Rattle.retune_model.specs.SourceFaults.{kind_in, kind_behind}
-use Rattle.retune_model.specs.Pairs.{Pair, is_same_pair, pair_if}
+use Rattle.retune_model.specs.Pairs.{Part, Pair, is_same_part, is_same_pair, int_lt, is_earlier_part, is_before, pair_if}
+use Rattle.retune_model.specs.PairOrder.{AreOrdered}
 use Rattle.retune_model.specs.Rests.{notes_at, nobody, steps_of, pair_of, pairs_at, held_at, begun_pair, begun_pairs, IsAimedPort}
 use Rattle.retune_model.specs.RestLaws.{PairsAreOfNotes, OneRunBegins, HeldWasThere, SoundingIsHeld, HeldOrBegun, ResetsEndAll}
 use Rattle.retune_model.specs.Need.{ArePairs}
@@ -43,6 +44,34 @@ use Rattle.bend_laws.proofs.Placing.{event_is, StandsAt, at_place, reset_here, a
 -- nothing stands twice among the pairs that are held
 abbrev pub HeldStandOnce : Type 0
 HeldStandOnce = (o : Options) (part : ℕ → Bool) (table : Targets) (port : PortEvents) (k : ℕ) → IsDistinct is_same_pair (held_at o part table port k)
+
+-- where they stand in order
+
+int_apart : (a b : ℤ) → int_lt a b ≡ true → int_eq a b ≡ false
+int_apart (pos a) (pos b) h = ne_eqb a b (λ e. let x = ltb-true a b h in omega (arith, x, e))
+int_apart (pos a) (negsuc b) h = refl
+int_apart (negsuc a) (pos b) h = refl
+int_apart (negsuc a) (negsuc b) h = ne_eqb a b (λ e. let x = ltb-true b a h in omega (arith, x, e))
+
+nat_apart : (a b : ℕ) → nat_lt a b ≡ true → nat_eq a b ≡ false
+nat_apart a b h = ne_eqb a b (λ e. let x = ltb-true a b h in omega (arith, x, e))
+
+part_apart : (p q : Part) → is_earlier_part p q ≡ true → is_same_part p q ≡ false
+part_apart p q h = elim (or_cases (nat_lt p.port q.port) (nat_eq p.port q.port && nat_lt p.channel q.channel) h) [
+  | inl l ↦ and_left (nat_eq p.port q.port) (nat_eq p.channel q.channel) (nat_apart p.port q.port l)
+  | inr r ↦ and_right (nat_eq p.port q.port) (nat_eq p.channel q.channel) (nat_apart p.channel q.channel (and_parts (nat_eq p.port q.port) (nat_lt p.channel q.channel) r).1)
+]
+
+before_other : (p q : Pair) → is_before p q ≡ true → is_same_pair p q ≡ false
+before_other p q h = elim (or_cases (is_earlier_part p.part q.part) (is_same_part p.part q.part && int_lt p.steps q.steps) h) [
+  | inl l ↦ and_left (is_same_part p.part q.part) (int_eq p.steps q.steps) (part_apart p.part q.part l)
+  | inr r ↦ and_right (is_same_part p.part q.part) (int_eq p.steps q.steps) (int_apart p.steps q.steps (and_parts (is_same_part p.part q.part) (int_lt p.steps q.steps) r).1)
+]
+
+pub stand_once : (ps : List Pair) → AreOrdered ps → IsDistinct is_same_pair ps
+unfolding IsDistinct
+stand_once [] h = tt
+stand_once (p ∷ ps) h = (all_weaker (λ q. is_before p q ≡ true) (λ q. is_same_pair p q ≡ false) (before_other p) ps h.0, stand_once ps h.1)
 
 -- what is cited of pairs, faults and channels
 pub record PortFacts : Type 0 where

@@ -6,7 +6,8 @@ use channel_model::{best_is_free, outputs_apart};
 use midi_model::{music_laws, parameter_laws, receiver_laws};
 use mt_base::laws::{exact, sums, wider};
 use retune_model::{
-    elsewhere, held_laws, position_laws, rests_are_runs, sound_sources, zone_entries_set_zones,
+    elsewhere, held_laws, pairs_in_order, position_laws, rests_are_runs, sound_sources,
+    zone_entries_set_zones,
 };
 use state_laws::{a_receiver_follows, bring_reaches, messages_only_set, states_stay_well_formed};
 
@@ -26,6 +27,7 @@ pub fn bend_plays_the_same()
     outputs_apart();
     elsewhere();
     held_laws();
+    pairs_in_order();
     position_laws();
     rests_are_runs();
     sound_sources();

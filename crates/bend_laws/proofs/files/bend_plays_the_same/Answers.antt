@@ -4,7 +4,8 @@ use Rattle.bend_laws.proofs.Bridge.{ReceiversStay}
 use Rattle.bend_laws.proofs.Whole.{Cited, all_laws, stays, one_sounds}
 use Rattle.bend_laws.proofs.Outputs.{source_is_played}
 use Rattle.bend_laws.proofs.Musical.{MusicLaws}
-use Rattle.bend_laws.proofs.Ported.{PortFacts, HeldStandOnce, timely_port}
+use Rattle.bend_laws.proofs.Ported.{PortFacts, HeldStandOnce, stand_once, timely_port}
+use Rattle.retune_model.specs.Rests.{held_at}
 use Rattle.bend_laws.proofs.Filed.{port_plays, port_blocks, same_file, file_playable}
 use Rattle.channel_model.specs.BendOutput.{runs_on}
 use Rattle.retune_model.specs.Ports.{of_port}
@@ -25,7 +26,7 @@ returns c =
   } in
   let laws : Laws IsWellFormed = all_laws below in
   let stay : ReceiversStay = stays below in
-  let once : HeldStandOnce = ? in
+  let once : HeldStandOnce = λ o part table port k. stand_once (held_at o part table port k) (c.pairs_in_order.ensures.held o part table port k) in
   let facts : PortFacts = record {
     within = c.held_laws.ensures.within;
     sounding = c.held_laws.ensures.sounding;
