@@ -48,13 +48,13 @@ is_one P (n ∷ ns) h k e is = pick (nat_eq n.position k) is (λ g. is_one P ns 
     pick true g f = subst P (let same : n.event ≡ e = cc in same) h.0
     pick false g f = f g
 
-shaped_none : (o : Options) → o.keep_drums ≡ true → (e : MidiEvent) (block : List MidiEvent) → is_drum_message e.what ≡ false → Shaped o e block → NoDrums block
-shaped_none o keep e block h (inl is) = subst NoDrums (sym is) (h, tt)
-shaped_none o keep e block h (inr c) = subst NoDrums (sym c.is) (all_said c.messages c.right)
+shaped_none : (o : Options) (used : ℕ → Bool) → o.keep_drums ≡ true → (e : MidiEvent) (block : List MidiEvent) → is_drum_message e.what ≡ false → Shaped o used e block → NoDrums block
+shaped_none o used keep e block h (inl i) = subst NoDrums (sym i.is) (h, tt)
+shaped_none o used keep e block h (inr c) = subst NoDrums (sym c.is) (all_said c.messages c.right)
   where
-    all_said : (ms : List Msg) → AllByRecursion (IsRight o) ms → NoDrums (saying e ms)
+    all_said : (ms : List Msg) → AllByRecursion (IsRight o used) ms → NoDrums (saying e ms)
     all_said [] r = tt
-    all_said (m ∷ ms) r = (no_drum o (channel_of m) keep r.0.1, all_said ms r.1)
+    all_said (m ∷ ms) r = (no_drum o (channel_of m) keep r.0.1.0, all_said ms r.1)
 
 none_to : (Good : State → Type 0) → Laws Good → (o : Options) (table : Targets) (used : ℕ → Bool) → AreUsed o used → (plan : PortRuns) (ns : List Numbered) (last : ℕ) → IsPlanned Good o table used plan ns last → o.keep_drums ≡ true → NoDrums (unnumbered ns) → (k : ℕ) → k ≤ last →
     NoDrums (blocks_to o table plan ns k)
@@ -65,7 +65,7 @@ none_to Good laws o table used row plan ns last given keep none (suc k) low =
   where
     go : (x : Option MidiEvent) → port_event ns (suc k) ≡ x → NoDrums (block_if plan.number o table (moment plan k) (both_at o table plan ns k) x)
     go None is = tt
-    go (Some e) is = shaped_none o keep e (port_block plan.number o table (moment plan k) (both_at o table plan ns k).source (both_at o table plan ns k).out e) (is_one (λ x. is_drum_message x.what ≡ false) ns none (suc k) e is) (shaped_at Good laws o table used row plan ns last given k low e is)
+    go (Some e) is = shaped_none o used keep e (port_block plan.number o table (moment plan k) (both_at o table plan ns k).source (both_at o table plan ns k).out e) (is_one (λ x. is_drum_message x.what ≡ false) ns none (suc k) e is) (shaped_at Good laws o table used row plan ns last given k low e is)
 
 -- ---- notes
 

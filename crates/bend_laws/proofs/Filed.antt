@@ -1,17 +1,21 @@
 -- The sentences of a file: those of its ports, and those of all its events.
-use Rattle.std.proofs.Common.{◌≡◌, ◌≤◌, ℕ, Bool, true, List, refl, ap, sym, ◌∙◌, subst, length}
+use Rattle.std.proofs.Common.{◌≡◌, ◌≤◌, ◌<◌, ℕ, Bool, true, List, refl, ap, sym, ◌∙◌, subst, length, get_or}
 use Rattle.std.specs.List.{AllByRecursion}
 use Rattle.mt_base.specs.Midi.{MidiEvent}
 use Rattle.mt_base.specs.Valid.{IsValidEvent}
 use Rattle.midi_model.specs.WellFormed.{IsWellFormed}
 use Rattle.midi_model.specs.Merged.{IsPlayable}
-use Rattle.midi_model.specs.Music.{quiet, play}
+use Rattle.midi_model.specs.Music.{quiet, channel_at, play}
 use Rattle.retune_model.specs.Table.{Scaling}
 use Rattle.retune_model.specs.Options.{Options}
-use Rattle.retune_model.specs.Ports.{Numbered, of_port, events_on, unnumbered, all_zero}
+use Rattle.retune_model.specs.Ports.{of_port, port_at, events_on, all_zero}
 use Rattle.retune_model.specs.PlaysTheSame.{plain_device, PlayTheSame, PlaysTheSameMusic, KeepsDrums}
 use Rattle.retune_model.specs.Faults.{Targets}
-use Rattle.retune_model.specs.Pairs.{Pair}
+use Rattle.retune_model.specs.Pairs.{Pair, is_same_pair}
+use Rattle.retune_model.specs.Runs.{since}
+use Rattle.channel_model.specs.Choice.{from_state}
+use Rattle.channel_model.specs.Rows.{used_row, IsBendPlan}
+use Rattle.bend_laws.specs.Brought.{IsSameAside}
 use Rattle.channel_model.specs.Laws.{BentPorts}
 use Rattle.channel_model.specs.BendOutput.{PortRuns, runs_on, bend_output}
 use Rattle.bend_laws.specs.Moments.{port_output}
@@ -19,17 +23,20 @@ use Rattle.bend_laws.specs.Follows.{AreUsed}
 use Rattle.bend_laws.specs.Positions.{both_at, IsPlanned, up_to_position}
 use Rattle.bend_laws.specs.Simulation.{PlaysAt}
 use Rattle.bend_laws.specs.Ticks.{AreTimely}
-use Rattle.bend_laws.specs.Bent.{uses, IsBent, IsTuned}
+use Rattle.bend_laws.specs.Bent.{uses, IsBent, IsTuned, IsOnUsed, NoneHeld}
 use Rattle.bend_laws.proofs.Given.{Laws}
 use Rattle.bend_laws.proofs.Shown.{plays_at}
 use Rattle.bend_laws.proofs.Outputs.{out_is, source_is_played, blocks_are}
-use Rattle.bend_laws.proofs.Righting.{output_valid, keeps_all_drums}
+use Rattle.bend_laws.proofs.Righting.{output_valid, output_used, keeps_all_drums}
 use Rattle.bend_laws.proofs.Musical.{MusicLaws, same_music}
 use Rattle.bend_laws.proofs.Passing.{keeps_all_others}
 use Rattle.bend_laws.proofs.Orderly.{output_playable}
-use Rattle.bend_laws.proofs.Rows.{row_used}
+use Rattle.bend_laws.proofs.Rows.{row_used, lane_used, lane_apart}
 use Rattle.bend_laws.proofs.Placing.{all_of_ports}
-use Rattle.bend_laws.proofs.Ported.{PortFacts, timely_port, planned_port}
+use Rattle.bend_laws.proofs.Ported.{PortFacts, timely_port, planned_port, placed_on}
+use Rattle.bend_laws.proofs.Runs.{HasPlaces}
+use Rattle.bend_laws.proofs.Simulates.{follows_at}
+use Rattle.bend_laws.proofs.Leaving.{IsLane, left_as}
 
 -- a port of the file, with its plan
 record OnPort (o : Options) (allowed : ℕ → Bool) (table : Targets) (es : List MidiEvent) (need : ℕ → ℕ) (channel : ℕ → ℕ → Pair → ℕ) (z : ℕ) : Type 0 where
@@ -86,3 +93,29 @@ file_playable laws f ports o allowed table es need channel b tracks playable =
     subst (AllByRecursion IsValidEvent) (sym (ports o table channel es z))
     (output_valid IsWellFormed laws o table (uses o allowed (need z)) p.used (runs_on o table es channel z) (of_port z es) (length es) p.planned p.timely)) in
     output_playable tracks o table (runs_on o table es channel) es (all_of_ports IsValidEvent all_zero 0 (bend_output o table channel es) valid) playable
+
+pub file_used : Laws IsWellFormed → PortFacts → BentPorts → (o : Options) (allowed : ℕ → Bool) (table : Targets) (es : List MidiEvent) (need : ℕ → ℕ) (channel : ℕ → ℕ → Pair → ℕ) → IsBent o allowed table es need channel →
+    (z : ℕ) → AllByRecursion (IsOnUsed o (uses o allowed (need z))) (events_on z (bend_output o table channel es))
+file_used laws f ports o allowed table es need channel b z =
+    let p : OnPort o allowed table es need channel z = on_port f o allowed table es need channel b z in
+    subst (AllByRecursion (IsOnUsed o (uses o allowed (need z)))) (sym (ports o table channel es z))
+    (output_used IsWellFormed laws o table (uses o allowed (need z)) p.used (runs_on o table es channel z) (of_port z es) (length es) p.planned p.timely)
+
+pub port_left : Laws IsWellFormed → PortFacts → (o : Options) (allowed : ℕ → Bool) (table : Targets) (es : List MidiEvent) (need : ℕ → ℕ) (channel : ℕ → ℕ → Pair → ℕ) → IsBent o allowed table es need channel →
+    (z instant : ℕ) (row : ℕ → ℕ) → IsBendPlan o allowed table es z (need z) instant row (channel z) → (k i : ℕ) → k ≤ length es → i < need z →
+    (let runs = runs_on o table es channel z in let c = get_or (used_row o allowed (need z)) i 0 in
+    NoneHeld runs k c → IsSameAside (channel_at (both_at o table runs (of_port z es) k).out c) (from_state o table (port_at es z) row i k).own)
+port_left laws f o allowed table es need channel b z instant row plan k i low small free =
+    let n : ℕ = need z in
+    let runs : PortRuns = runs_on o table es channel z in
+    let used : List ℕ = used_row o allowed n in
+    let c : ℕ = get_or used i 0 in
+    let p : OnPort o allowed table es need channel z = on_port f o allowed table es need channel b z in
+    let lane : IsLane runs (length es) row i c = record {
+      here = λ j q l m h. plan.given j q ∙ ap (λ x. get_or used x 0) h;
+      there = λ j q l m h. lane_apart o allowed n plan.within (row (since is_same_pair runs.pairs q j)) i
+          ((placed_on f o allowed table es need channel b z instant row plan j l).below q m) small (sym (plan.given j q) ∙ h);
+    } in
+    subst (IsSameAside (channel_at (both_at o table runs (of_port z es) k).out c))
+    (left_as IsWellFormed laws o table (uses o allowed n) p.used runs (port_at es z) (length es) p.planned p.timely.rising row i c lane k low free)
+    ((follows_at IsWellFormed laws o table (uses o allowed n) p.used runs (of_port z es) (length es) p.planned k low).states c (lane_used o allowed n plan.within i small))

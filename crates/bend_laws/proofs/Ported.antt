@@ -24,7 +24,7 @@ use Rattle.retune_model.specs.Runs.{since, OneBegins, TakesFree}
 use Rattle.retune_model.specs.PortNeed.{pairs_on, held_on}
 use Rattle.retune_model.specs.PortLaws.{PortsAreTimed}
 use Rattle.retune_model.specs.FaultLaws.{SoundPortsAreAimed, FaultlessPorts}
-use Rattle.channel_model.specs.Rows.{used_row, allowed_row}
+use Rattle.channel_model.specs.Rows.{used_row, IsBendPlan}
 use Rattle.channel_model.specs.Laws.{ShortestIsFree}
 use Rattle.channel_model.specs.BendOutput.{pair_with, PortRuns, runs_on}
 use Rattle.state_laws.specs.StateLaws.{StaysWellFormedWith}
@@ -212,6 +212,13 @@ valid_port es v z last k e low is =
     each [] h = tt
     each (n ∷ ns) h = (h.0, each ns h.1)
 
+-- the places of the runs of a plan
+pub placed_on : PortFacts → (o : Options) (allowed : ℕ → Bool) (table : Targets) (es : List MidiEvent) (need : ℕ → ℕ) (channel : ℕ → ℕ → Pair → ℕ) → IsBent o allowed table es need channel → (z instant : ℕ) (row : ℕ → ℕ) →
+    IsBendPlan o allowed table es z (need z) instant row (channel z) → (k : ℕ) → k ≤ length es → HasPlaces (pairs_on o (is_part o) table es z) (need z) row k
+placed_on f o allowed table es need channel b z instant row plan =
+    has_places (pairs_on o (is_part o) table es z) (length es) (need z) row
+    (f.one o (is_part o) table (port_at es z) (length es) (f.aimed o (is_part o) table es z (λ c h. h) b.sound)) (f.free o table es z (need z) row plan.takes)
+
 pub planned_port : PortFacts → (o : Options) (allowed : ℕ → Bool) (table : Targets) (es : List MidiEvent) (need : ℕ → ℕ) (channel : ℕ → ℕ → Pair → ℕ) → IsBent o allowed table es need channel → (z : ℕ) →
     IsPlanned IsWellFormed o table (uses o allowed (need z)) (runs_on o table es channel z) (of_port z es) (length es)
 planned_port f o allowed table es need channel b z =
@@ -228,7 +235,7 @@ planned_port f o allowed table es need channel b z =
     let src : (k : ℕ) → music_at ns k ≡ source_at ns k = λ k. sym (source_played ns rising k) in
     let valid : AreValidTo ns last = valid_port es b.valid z last in
     let one : OneBegins is_same_pair at last = f.one o part table port last aimed in
-    let placed : (k : ℕ) → k ≤ last → HasPlaces at n it.row k = has_places at last n it.row one (f.free o table es z n it.row it.plan.takes) in
+    let placed : (k : ℕ) → k ≤ last → HasPlaces at n it.row k = placed_on f o allowed table es need channel b z it.instant it.row it.plan in
     let of : (k : ℕ) (p : Pair) → k ≤ last → Has (at k) p → IsOfPort o z p = λ k p low h. of_port_pair f.pairs o table port last aimed k p low h in
     record {
       valid = valid;

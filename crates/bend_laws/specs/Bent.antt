@@ -1,14 +1,16 @@
 -- A source with a plan of channels for each of its ports, as the bend route is given one.
-use Rattle.std.specs.Prelude.{◌≡◌, ◌≤◌, ◌<◌, ℕ, Bool, List, nat_eq}
+use Rattle.std.specs.Prelude.{◌≡◌, ◌≢◌, ◌≤◌, ◌<◌, ℕ, suc, Bool, true, List, nat_eq}
 use Rattle.std.specs.List.{AllByRecursion}
 use Rattle.std.specs.Set.{is_member}
-use Rattle.mt_base.specs.Midi.{MidiEvent}
+use Rattle.mt_base.specs.declared.event.Msg.{Msg}
+use Rattle.mt_base.specs.Midi.{MidiEvent, Says, channel_of}
 use Rattle.mt_base.specs.Valid.{IsValidEvent}
 use Rattle.retune_model.specs.Table.{Scaling, IsTable, AreFewTerms}
 use Rattle.retune_model.specs.Options.{Options, ByBend}
-use Rattle.retune_model.specs.Faults.{Targets}
-use Rattle.retune_model.specs.Pairs.{Pair}
+use Rattle.retune_model.specs.Faults.{Targets, is_part}
+use Rattle.retune_model.specs.Pairs.{Pair, is_same_pair}
 use Rattle.retune_model.specs.SourceFaults.{IsSound}
+use Rattle.channel_model.specs.BendOutput.{PortRuns}
 use Rattle.channel_model.specs.Rows.{used_row, IsBendPlan}
 
 -- the channels of the used row of a port that needs n
@@ -34,3 +36,11 @@ pub record IsTuned (scaling : Scaling) (o : Options) (table : Targets) : Type 0 
   pub bounds : IsTable scaling table
   pub few_terms : AreFewTerms scaling
   pub range : 0 < o.range
+
+-- A message of a part is on a used channel; kept drums, and what is no message, are as they are.
+abbrev pub IsOnUsed : Options → (ℕ → Bool) → MidiEvent → Type 0
+IsOnUsed o used e = (msg : Msg) → e.what ≡ Says msg → is_part o (channel_of msg) ≡ true → used (channel_of msg) ≡ true
+
+-- At the event behind a position no run holds a channel.
+abbrev pub NoneHeld : PortRuns → ℕ → ℕ → Type 0
+NoneHeld runs k c = (p : Pair) → is_member is_same_pair (runs.held (suc k)) p ≡ true → runs.channel k p ≢ c

@@ -1,19 +1,23 @@
 -- What the bend route writes for a file, where each port has a plan.
-use Rattle.std.specs.Prelude.{◌≡◌, ◌≤◌, ℕ, Bool, List, length}
+use Rattle.std.specs.Prelude.{◌≡◌, ◌≤◌, ◌<◌, ℕ, Bool, List, length, get_or}
+use Rattle.std.specs.List.{AllByRecursion}
 use Rattle.mt_base.specs.Midi.{MidiEvent}
 use Rattle.midi_model.specs.Merged.{IsPlayable}
-use Rattle.midi_model.specs.Music.{quiet, play}
+use Rattle.midi_model.specs.Music.{quiet, channel_at, play}
 use Rattle.retune_model.specs.Table.{Scaling}
 use Rattle.retune_model.specs.Options.{Options}
-use Rattle.retune_model.specs.Ports.{of_port, music_at}
+use Rattle.retune_model.specs.Ports.{of_port, port_at, events_on, music_at}
 use Rattle.retune_model.specs.PlaysTheSame.{plain_device, PlayTheSame}
 use Rattle.retune_model.specs.Faults.{Targets}
 use Rattle.retune_model.specs.Pairs.{Pair}
+use Rattle.channel_model.specs.Choice.{from_state}
+use Rattle.channel_model.specs.Rows.{used_row, IsBendPlan}
 use Rattle.channel_model.specs.BendOutput.{runs_on, bend_output}
 use Rattle.bend_laws.specs.Moments.{port_output}
+use Rattle.bend_laws.specs.Brought.{IsSameAside}
 use Rattle.bend_laws.specs.Positions.{both_at, up_to_position}
 use Rattle.bend_laws.specs.Simulation.{PlaysAt}
-use Rattle.bend_laws.specs.Bent.{uses, IsBent, IsTuned}
+use Rattle.bend_laws.specs.Bent.{uses, IsBent, IsTuned, IsOnUsed, NoneHeld}
 
 -- a sentence about a source with a plan for each of its ports
 abbrev pub OfBent : (Options → (ℕ → Bool) → Targets → List MidiEvent → (ℕ → ℕ) → (ℕ → ℕ → Pair → ℕ) → Type 0) → Type 0
@@ -42,3 +46,14 @@ BentPlaysTheSame = OfBent (λ o allowed table es need channel. (scaling : Scalin
 -- and can be written as a file with the source's tracks
 abbrev pub BentIsPlayable : Type 0
 BentIsPlayable = OfBent (λ o allowed table es need channel. (tracks : ℕ) → IsPlayable tracks es → IsPlayable tracks (bend_output o table channel es))
+
+-- on each port it speaks to no part but on the channels of the used row
+abbrev pub BentIsOnTheRow : Type 0
+BentIsOnTheRow = OfBent (λ o allowed table es need channel. (z : ℕ) → AllByRecursion (IsOnUsed o (uses o allowed (need z))) (events_on z (bend_output o table channel es)))
+
+-- A channel of the used row that no run holds at the next event is in the state from which a run that begins there is brought, what is
+-- selected aside: what its last run's pair needed right after the last event at which it was held. `i` is its place of the row.
+abbrev pub PortsAreLeft : Type 0
+PortsAreLeft = OfBent (λ o allowed table es need channel. (z instant : ℕ) (row : ℕ → ℕ) → IsBendPlan o allowed table es z (need z) instant row (channel z) → (k i : ℕ) → k ≤ length es → i < need z →
+    (let runs = runs_on o table es channel z in let c = get_or (used_row o allowed (need z)) i 0 in
+    NoneHeld runs k c → IsSameAside (channel_at (both_at o table runs (of_port z es) k).out c) (from_state o table (port_at es z) row i k).own))

@@ -1,6 +1,6 @@
 //! What the bend route writes for a file.
 
-ghost use Rattle.bend_laws.specs.FileLaws.{PortsPlay, PortsAreTheirEvents, PortsAreTheirBlocks, BentPlaysTheSame, BentIsPlayable};
+ghost use Rattle.bend_laws.specs.FileLaws.{PortsPlay, PortsAreTheirEvents, PortsAreTheirBlocks, BentPlaysTheSame, BentIsPlayable, BentIsOnTheRow, PortsAreLeft};
 
 use channel_model::{best_is_free, outputs_apart};
 use midi_model::{music_laws, parameter_laws, receiver_laws};
@@ -15,13 +15,16 @@ use state_laws::{a_receiver_follows, bring_reaches, messages_only_set, states_st
 /// that the source plays, one by one, on the channels of the plan; the channel of each pair that is there is at what the pair needs;
 /// and each other channel of the used row is silent and as it was left. So the whole plays the same: on every port and at every tick
 /// the same notes, each within half a step of a bend and a thousandth of a cent of its source pitch, and right from its beginning; all
-/// other events and kept drums are passed on. And it can be written as a file with the source's tracks.
+/// other events and kept drums are passed on. And it can be written as a file with the source's tracks,
+/// and speaks to no part but on the channels of the used row.
 pub fn bend_plays_the_same()
     ensures ports { PortsPlay }
     ensures source { PortsAreTheirEvents }
     ensures out { PortsAreTheirBlocks }
+    ensures left { PortsAreLeft }
     ensures same { BentPlaysTheSame }
     ensures playable { BentIsPlayable }
+    ensures on_row { BentIsOnTheRow }
 {
     best_is_free();
     outputs_apart();

@@ -6,7 +6,7 @@ use Rattle.bend_laws.proofs.Outputs.{source_is_played}
 use Rattle.bend_laws.proofs.Musical.{MusicLaws}
 use Rattle.bend_laws.proofs.Ported.{PortFacts, HeldStandOnce, stand_once, timely_port}
 use Rattle.retune_model.specs.Rests.{held_at}
-use Rattle.bend_laws.proofs.Filed.{port_plays, port_blocks, same_file, file_playable}
+use Rattle.bend_laws.proofs.Filed.{port_plays, port_blocks, same_file, file_playable, file_used, port_left}
 use Rattle.channel_model.specs.BendOutput.{runs_on}
 use Rattle.retune_model.specs.Ports.{of_port}
 use Rattle.bend_laws.proofs.files.bend_plays_the_same.Goals as goal
@@ -64,4 +64,6 @@ returns c =
     out = λ o allowed table es need channel b z k. port_blocks facts o allowed table es need channel b z k;
     same = λ o allowed table es need channel b scaling tuned. same_file music facts c.outputs_apart.ensures.bend o allowed table es need channel b scaling tuned;
     playable = λ o allowed table es need channel b tracks playable. file_playable laws facts c.outputs_apart.ensures.bend o allowed table es need channel b tracks playable;
+    left = λ o allowed table es need channel b z instant row plan k i low small free. port_left laws facts o allowed table es need channel b z instant row plan k i low small free;
+    on_row = λ o allowed table es need channel b z. file_used laws facts c.outputs_apart.ensures.bend o allowed table es need channel b z;
   }
