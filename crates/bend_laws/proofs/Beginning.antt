@@ -19,7 +19,8 @@ use Rattle.retune_model.specs.Faults.{Targets, is_part, is_same_target, target_o
 use Rattle.channel_model.specs.Choice.{wanted}
 use Rattle.channel_model.specs.BendOutput.{pair_with}
 use Rattle.bend_laws.specs.Moments.{Moment, Both, setup, strikes, port_block, next_both}
-use Rattle.bend_laws.specs.Brought.{IsSameAside, brought_on, IsReached, IsBroughtTo}
+use Rattle.bend_laws.specs.Brought.{IsSameAside, IsReached}
+use Rattle.bend_laws.proofs.Brought.{brought_on, IsBroughtTo}
 use Rattle.bend_laws.specs.Follows.{Has, SoundsAlike, IsPlayedBy, IsMatched, AreApart, IsAmong, Begins, IsGiven, AreUsed, Follows}
 use Rattle.bend_laws.proofs.Equal.{target_key, target_steps, same_target}
 use Rattle.bend_laws.proofs.Lists.{all_weaker, all_both, map_kept, pair_map, pair_along, pair_second, pair_append}

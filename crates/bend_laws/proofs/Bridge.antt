@@ -18,7 +18,8 @@ use Rattle.state_laws.specs.Sent.{SendsValidOnes}
 use Rattle.state_laws.specs.StateLaws.{ReceiversAreWellFormed, EachChannelIs}
 use Rattle.state_laws.specs.Heard as heard
 use Rattle.state_laws.specs.HeardLaws.{Plays}
-use Rattle.bend_laws.specs.Brought.{IsSameAside, turned_captured, turned_ended, turned, end_of, pressed, brought, brought_on, IsReached, IsBroughtTo, BringReaches}
+use Rattle.bend_laws.specs.Brought.{IsSameAside, IsReached}
+use Rattle.bend_laws.proofs.Brought.{turned_captured, turned_ended, turned, end_of, pressed, brought, brought_on, IsBroughtTo, BringReaches}
 use Rattle.bend_laws.proofs.Lists.{all_weaker, all_both}
 use Rattle.bend_laws.proofs.Turned.{sostenuto_here, settle_turned}
 use Rattle.bend_laws.proofs.Playing.{saying, settled_reached}

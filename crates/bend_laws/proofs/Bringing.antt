@@ -15,7 +15,8 @@ use Rattle.retune_model.specs.Options.{Options}
 use Rattle.retune_model.specs.Faults.{Targets, is_part, target_of}
 use Rattle.channel_model.specs.Choice.{wanted, wanted_keys, key_set, has_pair}
 use Rattle.channel_model.specs.BendOutput.{Held, bring_all}
-use Rattle.bend_laws.specs.Brought.{IsSameAside, brought, brought_on, IsReached, IsBroughtTo, BringReaches}
+use Rattle.bend_laws.specs.Brought.{IsSameAside, IsReached}
+use Rattle.bend_laws.proofs.Brought.{brought, brought_on, IsBroughtTo, BringReaches}
 use Rattle.bend_laws.proofs.Lists.{map_same, map_map, all_mapped, all_weaker, all_both}
 use Rattle.bend_laws.proofs.Holding.{IsIn, OnOwnChannels, all_at}
 use Rattle.bend_laws.proofs.Playing.{saying, play_saying, saying_valid, reached_play, state_kept}

@@ -22,7 +22,7 @@ use Rattle.bend_laws.specs.Moments.{port_output}
 use Rattle.bend_laws.specs.Follows.{AreUsed}
 use Rattle.bend_laws.specs.Positions.{both_at, IsPlanned, up_to_position}
 use Rattle.bend_laws.specs.Simulation.{PlaysAt}
-use Rattle.bend_laws.specs.Ticks.{AreTimely}
+use Rattle.bend_laws.proofs.Ticks.{AreTimely}
 use Rattle.bend_laws.specs.Bent.{uses, IsBent, IsTuned, IsOnUsed, NoneHeld}
 use Rattle.bend_laws.proofs.Given.{Laws}
 use Rattle.bend_laws.proofs.Shown.{plays_at}

@@ -16,7 +16,7 @@ use Rattle.retune_model.specs.SourceFaults.{beyond_after, message_tests, kind_in
 use Rattle.retune_model.specs.FaultLaws.{OnlyZoneEntriesAskForZones}
 use Rattle.retune_model.specs.PlaysTheSame.{Pairwise}
 use Rattle.channel_model.specs.Choice.{wanted}
-use Rattle.bend_laws.specs.Brought.{BringReaches}
+use Rattle.bend_laws.proofs.Brought.{BringReaches}
 use Rattle.bend_laws.specs.Follows.{IsPlayedBy, IsMatched}
 use Rattle.bend_laws.proofs.Lists.{pair_second}
 use Rattle.bend_laws.proofs.Bringing.{KeysFit}

@@ -30,7 +30,7 @@ use Rattle.bend_laws.specs.Brought.{IsSameAside}
 use Rattle.bend_laws.specs.Follows.{Has, IsPlayedBy, IsAmong, SoundAmong, IsGiven, AreUsed, Follows}
 use Rattle.bend_laws.specs.Positions.{port_event, source_next, source_at, both_at, IsPlanned}
 use Rattle.bend_laws.specs.Simulation.{retuned, PlaysAt}
-use Rattle.bend_laws.specs.Ticks.{AreTimely, IsSetAlike, IsUntuned}
+use Rattle.bend_laws.proofs.Ticks.{AreTimely, IsSetAlike, IsUntuned}
 use Rattle.bend_laws.proofs.Lists.{pair_weaker, pair_along}
 use Rattle.bend_laws.proofs.Given.{Laws, IsFine, fine}
 use Rattle.bend_laws.proofs.Altered.{is_resets}

@@ -3,6 +3,7 @@ pub mod Beginning
 pub mod Blockwise
 pub mod Bridge
 pub mod Bringing
+pub mod Brought
 pub mod Changing
 pub mod Drumless
 pub mod Elsewhere
@@ -42,6 +43,7 @@ pub mod Steps
 pub mod Still
 pub mod Striking
 pub mod Ticking
+pub mod Ticks
 pub mod Touched
 pub mod Turned
 pub mod Turning

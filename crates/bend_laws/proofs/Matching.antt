@@ -12,7 +12,7 @@ use Rattle.retune_model.specs.Faults.{Targets, is_part, target_of}
 use Rattle.channel_model.specs.Choice.{wanted}
 use Rattle.channel_model.specs.BendOutput.{Held, held_by, pair_with}
 use Rattle.bend_laws.specs.Moments.{Moment}
-use Rattle.bend_laws.specs.Brought.{turned_captured, turned_ended, turned, end_of, pressed, brought, brought_on}
+use Rattle.bend_laws.proofs.Brought.{turned_captured, turned_ended, turned, end_of, pressed, brought, brought_on}
 use Rattle.bend_laws.specs.Follows.{Has, SoundsAlike, IsPlayedBy, IsMatched, AreApart, IsAmong, SoundAmong}
 use Rattle.bend_laws.proofs.Lists.{pair_map, pair_along}
 use Rattle.bend_laws.proofs.Holding.{held_pair, OnOwnChannels, held_in, held_all}

@@ -1,9 +1,9 @@
 -- The sentences of a port's music, put together.
-use Rattle.std.proofs.Common.{ℕ, Bool, List}
+use Rattle.std.proofs.Common.{◌<◌, ℕ, Bool, List}
 use Rattle.midi_model.specs.WellFormed.{IsWellFormed}
 use Rattle.midi_model.specs.ParameterLaws.{PutGivesTheValue, PutLeavesTheOthers}
 use Rattle.midi_model.specs.Music.{quiet}
-use Rattle.retune_model.specs.Table.{Scaling}
+use Rattle.retune_model.specs.Table.{Scaling, IsTable, AreFewTerms}
 use Rattle.retune_model.specs.Options.{Options}
 use Rattle.retune_model.specs.PlaysTheSame.{PlaysTheSameMusic, plain_device}
 use Rattle.retune_model.specs.Faults.{Targets}
@@ -13,8 +13,7 @@ use Rattle.state_laws.specs.HeardLaws.{KeepsTheTuning}
 use Rattle.bend_laws.specs.Moments.{port_output}
 use Rattle.bend_laws.specs.Follows.{AreUsed}
 use Rattle.bend_laws.specs.Positions.{IsPlanned}
-use Rattle.bend_laws.specs.Ticks.{AreTimely}
-use Rattle.bend_laws.specs.Laws.{IsHeard}
+use Rattle.bend_laws.proofs.Ticks.{AreTimely}
 use Rattle.bend_laws.proofs.Given.{Laws}
 use Rattle.bend_laws.proofs.Bridge.{ReceiversStay}
 use Rattle.bend_laws.proofs.Ticking.{same_notes}
@@ -23,6 +22,13 @@ use Rattle.bend_laws.proofs.Hearing.{same_sound}
 use Rattle.bend_laws.proofs.Untuning.{is_untuned}
 use Rattle.bend_laws.proofs.Opening.{begins_same}
 use Rattle.bend_laws.proofs.Drumless.{plays_same_music}
+
+-- the port's events are timely, the table is of the scaling, and no pitch of it has many terms
+pub record IsHeard (scaling : Scaling) (o : Options) (table : Targets) (ns : List Numbered) (last : ℕ) : Type 0 where
+  pub timely : AreTimely ns last
+  pub bounds : IsTable scaling table
+  pub few_terms : AreFewTerms scaling
+  pub range : 0 < o.range
 
 -- what a port's music needs of the crates below
 pub record MusicLaws : Type 0 where

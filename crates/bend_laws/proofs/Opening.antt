@@ -29,7 +29,7 @@ use Rattle.bend_laws.specs.Moments.{Moment, Both, setup, strikes, part_causes, p
 use Rattle.bend_laws.specs.Follows.{IsGiven, AreUsed, Follows}
 use Rattle.bend_laws.specs.Positions.{port_event, both_next, both_at, block_if, blocks_to, IsPlanned, up_to_position}
 use Rattle.bend_laws.specs.Simulation.{retuned}
-use Rattle.bend_laws.specs.Ticks.{AreTimely}
+use Rattle.bend_laws.proofs.Ticks.{AreTimely}
 use Rattle.bend_laws.proofs.Lists.{map_append, pair_append}
 use Rattle.bend_laws.proofs.Playing.{saying, saying_append}
 use Rattle.bend_laws.proofs.Given.{Laws, IsFine, fine}

@@ -20,11 +20,12 @@ use Rattle.retune_model.specs.Ports.{Numbered, unnumbered, Ascend}
 use Rattle.channel_model.specs.Choice.{wanted}
 use Rattle.channel_model.specs.BendOutput.{Held, held_by, pair_with, pressed_note, note_released, off_at, bring_all, send_all, controller_causes, PortRuns}
 use Rattle.bend_laws.specs.Moments.{Moment, Both, setup, strikes, part_causes, port_block, moment, port_output}
-use Rattle.bend_laws.specs.Brought.{BringReaches, IsReached}
+use Rattle.bend_laws.specs.Brought.{IsReached}
+use Rattle.bend_laws.proofs.Brought.{BringReaches}
 use Rattle.bend_laws.specs.Bent.{IsOnUsed}
 use Rattle.bend_laws.specs.Follows.{Has, IsAmong, IsGiven, AreUsed, Follows}
 use Rattle.bend_laws.specs.Positions.{port_event, both_at, block_if, blocks_to, IsPlanned, up_to_position}
-use Rattle.bend_laws.specs.Ticks.{AreTimely}
+use Rattle.bend_laws.proofs.Ticks.{AreTimely}
 use Rattle.bend_laws.proofs.Lists.{all_weaker, all_append, all_mapped, all_both}
 use Rattle.bend_laws.proofs.Holding.{held_all}
 use Rattle.bend_laws.proofs.Playing.{saying, saying_valid}

@@ -26,7 +26,7 @@ use Rattle.bend_laws.specs.Brought.{IsSameAside}
 use Rattle.bend_laws.specs.Follows.{Has, IsPlayedBy, IsAmong, SoundAmong, AreUsed, Follows}
 use Rattle.bend_laws.specs.Positions.{blocks_to, both_at, IsPlanned, up_to_position}
 use Rattle.bend_laws.specs.Simulation.{retuned, PlaysAt}
-use Rattle.bend_laws.specs.Ticks.{AreTimely, IsSetAlike, KeepsSettings}
+use Rattle.bend_laws.proofs.Ticks.{AreTimely, IsSetAlike}
 use Rattle.bend_laws.proofs.Equal.{own_governor}
 use Rattle.bend_laws.proofs.Lists.{all_weaker, all_append, map_append, pair_weaker, pair_along}
 use Rattle.bend_laws.proofs.Given.{Laws}
@@ -197,38 +197,3 @@ set_alike law port o table rs ro place a b zs zo h s is =
       parameters = λ p other. ap (λ (c : Channel). value_of c.params p) out ∙ ap (λ es. value_of es p) is.params ∙ law (rpn 0) p (o.range, 0) part.params (λ e. other (rank_zero p e)) ∙ ap (λ (c : Channel). value_of c.params p) (sym src);
       bend = ap (λ (c : Channel). c.bend) out ∙ is.bend ∙ ap (λ (c : Channel). bend_value ((pos 8192 +ℤ h.target.steps) +ℤ bend_in_steps o.range c)) (sym src);
     }
-
--- what is there of each retuned note that sounds
-pub among_retuned : (port : ℕ) (o : Options) (table : Targets) (ps : List Pair) (ns : List Note) → SoundAmong port o table ps ns → AllByRecursion (λ n. sounds n ≡ true → IsAmong port ps n.channel (target_of o table n)) (retuned o ns)
-among_retuned port o table ps [] h = tt
-among_retuned port o table ps (n ∷ ns) h = pick (is_part o n.channel) refl (among_retuned port o table ps ns h.1)
-  where
-    pick : (b : Bool) → is_part o n.channel ≡ b → AllByRecursion (λ x. sounds x ≡ true → IsAmong port ps x.channel (target_of o table x)) (retuned o ns) → AllByRecursion (λ x. sounds x ≡ true → IsAmong port ps x.channel (target_of o table x)) (cond b (n ∷ retuned o ns) (retuned o ns))
-    pick true e g = (h.0 e, g)
-    pick false e g = g
-
-pub same_settings : (Good : State → Type 0) → Laws Good → PutLeavesTheOthers → (o : Options) (table : Targets) (used : ℕ → Bool) → AreUsed o used → (plan : PortRuns) (ns : List Numbered) (last : ℕ) → IsPlanned Good o table used plan ns last → AreTimely ns last →
-    KeepsSettings o table (unnumbered ns) (port_output o table plan quiet quiet ns)
-same_settings Good laws law o table used row plan ns last given timely t =
-    let at : AtPosition o table plan ns last t = at_position o table plan ns last t timely in
-    let k : ℕ = at.position in
-    let b : Both = both_at o table plan ns k in
-    let rs : Receiver = at_tick t (unnumbered ns) in
-    let ro : Receiver = at_tick t (port_output o table plan quiet quiet ns) in
-    let follows : Follows Good plan.number o table used (plan.channel k) (plan.pairs k) b = follows_at Good laws o table used row plan ns last given k at.within in
-    let plays : PlaysAt o table used plan ns k b = plays_at Good laws o table used row plan ns last given k at.within in
-    let among : SoundAmong plan.number o table (plan.pairs k) b.source.notes = subst (λ (m : Music). SoundAmong plan.number o table (plan.pairs k) m.notes) (sym (source_is o table plan ns k)) (given.there k at.within) in
-    let Q : Note → Type 0 = λ n. sounds n ≡ true → IsAmong plan.number (plan.pairs k) n.channel (target_of o table n) in
-    let R : Note → Note → Type 0 = λ x y. sounds x ≡ true → IsSetAlike o table rs ro x y in
-    let zs : rs.music.zones ≡ no_zones = ap (λ (m : Music). m.zones) at.source ∙ follows.source_zones in
-    let zo : ro.music.zones ≡ no_zones = ap (λ (m : Music). m.zones) at.out ∙ follows.out_zones in
-    let done : Pairwise R (retuned o b.source.notes) (retuned o b.out.notes) =
-    pair_weaker (λ x y. IsPlayedBy plan.number o table (plan.channel k) x y × Q x) R
-    (λ x y q s.
-    let p : Pair = pair_with plan.number x.channel q.0.target in
-    let there : Has (plan.pairs k) p = subst (IsAmong plan.number (plan.pairs k) x.channel) q.0.aim (q.1 s) in
-    set_alike law plan.number o table rs ro (plan.channel k) x y zs zo q.0 s
-    (subst (λ (m : Music). IsSameAside (channel_at m (plan.channel k p)) (wanted o table rs.music p).own) (sym at.out)
-    (subst (λ (m : Music). IsSameAside (channel_at b.out (plan.channel k p)) (wanted o table m p).own) (sym at.source) (plays.there p there).own)))
-    (retuned o b.source.notes) (retuned o b.out.notes) (pair_along (IsPlayedBy plan.number o table (plan.channel k)) Q (retuned o b.source.notes) (retuned o b.out.notes) plays.notes (among_retuned plan.number o table (plan.pairs k) b.source.notes among)) in
-    subst (λ (m : Music). Pairwise R (retuned o m.notes) (retuned o ro.music.notes)) (sym at.source) (subst (λ (m : Music). Pairwise R (retuned o b.source.notes) (retuned o m.notes)) (sym at.out) done)

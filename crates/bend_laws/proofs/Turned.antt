@@ -12,7 +12,7 @@ use Rattle.midi_model.specs.Zones.{Zones, no_zones, governor, zones_with, bend_r
 use Rattle.midi_model.specs.Notes.{Note, sounds, is_down, is_pedal_down, ending, sostenuto}
 use Rattle.midi_model.specs.Music.{Music, channel_at, asks, notes_after, pedal, is_over, settle_note, advance}
 use Rattle.midi_model.specs.MusicLaws.{IsSettled}
-use Rattle.bend_laws.specs.Brought.{turned_captured, turned_ended, turned}
+use Rattle.bend_laws.proofs.Brought.{turned_captured, turned_ended, turned}
 use Rattle.bend_laws.proofs.Equal.{own_governor}
 use Rattle.bend_laws.proofs.Lists.{all_weaker}
 

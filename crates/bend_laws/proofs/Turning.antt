@@ -11,7 +11,7 @@ use Rattle.midi_model.specs.Zones.{no_zones}
 use Rattle.midi_model.specs.Notes.{Note, sounds, is_at, sostenuto, without_pressure, with_pressure}
 use Rattle.midi_model.specs.Music.{Music, channel_at, asks, notes_turned, notes_after, settle_note, advance}
 use Rattle.midi_model.specs.MusicLaws.{IsSettled}
-use Rattle.bend_laws.specs.Brought.{turned_captured}
+use Rattle.bend_laws.proofs.Brought.{turned_captured}
 use Rattle.bend_laws.proofs.Lists.{map_same, map_map}
 use Rattle.bend_laws.proofs.Turned.{said, all_stay, sostenuto_here, sostenuto_elsewhere, captured_same, IsCaptured, IsTurnedBy, all_settle}
 

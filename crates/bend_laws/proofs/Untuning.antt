@@ -26,12 +26,13 @@ use Rattle.channel_model.specs.Choice.{wanted}
 use Rattle.channel_model.specs.BendOutput.{Held, held_by, pair_with, pressed_note, note_released, off_at, bring_all, send_all, controller_causes, PortRuns}
 use Rattle.state_laws.specs.HeardLaws.{KeepsTheTuning}
 use Rattle.bend_laws.specs.Moments.{Moment, Both, setup, strikes, part_causes, port_block, moment, port_output}
-use Rattle.bend_laws.specs.Brought.{brought_on, IsReached, IsBroughtTo}
+use Rattle.bend_laws.specs.Brought.{IsReached}
+use Rattle.bend_laws.proofs.Brought.{brought_on, IsBroughtTo}
 use Rattle.mt_base.specs.Valid.{IsValidMsg}
 use Rattle.midi_model.specs.MusicLaws.{IsSettled}
 use Rattle.bend_laws.specs.Follows.{Has, IsGiven, AreUsed, Follows}
 use Rattle.bend_laws.specs.Positions.{port_event, both_at, block_if, blocks_to, IsPlanned}
-use Rattle.bend_laws.specs.Ticks.{IsUntuned, AreTimely}
+use Rattle.bend_laws.proofs.Ticks.{IsUntuned, AreTimely}
 use Rattle.bend_laws.proofs.Lists.{all_weaker, all_always, all_both}
 use Rattle.bend_laws.proofs.Holding.{OnOwnChannels, held_all, held_own}
 use Rattle.bend_laws.proofs.Playing.{saying, saying_append, saying_valid, reached_play, settled_reached, state_kept}

@@ -3,7 +3,6 @@ pub mod Brought
 pub mod Follows
 pub mod Positions
 pub mod Simulation
-pub mod Ticks
 pub mod Bent
 pub mod Laws
 pub mod FileLaws

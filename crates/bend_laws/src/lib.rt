@@ -5,4 +5,4 @@ mod files;
 mod follows;
 
 pub use files::bend_plays_the_same;
-pub use follows::{bend_follows, bend_plays, bend_sounds};
+pub use follows::bend_follows;

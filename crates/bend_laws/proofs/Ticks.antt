@@ -1,4 +1,4 @@
--- What follows for the musics at each tick: which of "plays the same" is shown, and what is left.
+-- What is shown of the musics at each tick.
 use Rattle.std.specs.Prelude.{◌≡◌, ◌≢◌, ◌≤◌, ℕ, pos, ◌+ℤ◌, List, Bool, true, Some, None}
 use Rattle.std.specs.List.{AllByRecursion}
 use Rattle.mt_base.specs.Midi.{MidiEvent}
@@ -32,10 +32,6 @@ pub record IsSetAlike (o : Options) (table : Targets) (rs ro : Receiver) (a b : 
   pub key_pressure : b.pressure ≡ a.pressure
   pub parameters : (p : Parameter) → p ≢ rpn 0 → value_of (state_of ro.music b).params p ≡ value_of (state_of rs.music a).params p
   pub bend : (state_of ro.music b).bend ≡ bend_value ((pos 8192 +ℤ target.steps) +ℤ bend_in_steps o.range (state_of rs.music a))
-
-abbrev pub KeepsSettings : Options → Targets → List MidiEvent → List MidiEvent → Type 0
-KeepsSettings o table source out = (t : ℕ) →
-    Pairwise (λ a b. sounds a ≡ true → IsSetAlike o table (at_tick t source) (at_tick t out) a b) (retuned_notes (is_part o) (at_tick t source)) (retuned_notes (is_part o) (at_tick t out))
 
 -- no used channel has selected a tuning program, at any tick
 abbrev pub IsUntuned : (ℕ → Bool) → List MidiEvent → Type 0
