@@ -32,8 +32,10 @@ pub record StillAlike (place : ℕ) (b : Note) (k l : Bool) (p q : ℕ) : Type 0
   pub captured : l ≡ k
   pub pressure : q ≡ p
 
-pub played_altered : (port : ℕ) (o : Options) (table : Targets) (was is : Pair → ℕ) (a b : Note) (r s : Option (ℕ × ℕ)) (k l : Bool) (p q : ℕ) (e f : Option ℕ) → (h : IsPlayedBy port o table was a b) → s ≡ r → f ≡ e →
-    (not (is_some e) ≡ true → StillAlike (is (pair_with port a.channel h.target)) b k l p q) → IsPlayedBy port o table is (altered a r k p e) (altered b s l q f)
+pub played_altered : (port : ℕ) (o : Options) (table : Targets) (was is : Pair → ℕ) (a b : Note) (r s : Option (ℕ × ℕ)) (k l : Bool) (p q : ℕ)
+    (e f : Option ℕ) → (h : IsPlayedBy port o table was a b) → s ≡ r → f ≡ e →
+    (not (is_some e) ≡ true → StillAlike (is (pair_with port a.channel h.target)) b k l p q) → IsPlayedBy port o table is (altered a r k p e)
+        (altered b s l q f)
 played_altered port o table was is a b r s k l p q e f h release ended alike = record {
   target = h.target;
   aim = h.aim;
@@ -43,7 +45,8 @@ played_altered port o table was is a b r s k l p q e f h release ended alike = r
   voice = h.voice;
   release = release;
   ended = ended;
-  sounding = λ g. (let y : StillAlike (is (pair_with port a.channel h.target)) b k l p q = alike g in record { channel = y.on; captured = y.captured; pressure = y.pressure });
+  sounding = λ g. (let y : StillAlike (is (pair_with port a.channel h.target)) b k l p q =
+      alike g in record { channel = y.on; captured = y.captured; pressure = y.pressure });
 }
 
 -- ---- a note that ends
@@ -63,15 +66,19 @@ pub never_sounds : (t : ℕ) (e : Option ℕ) → not (is_some (end_or t e)) ≡
 never_sounds t None h = cc
 never_sounds t (Some s) h = cc
 
-pub played_ended : (port : ℕ) (o : Options) (table : Targets) (was is : Pair → ℕ) (t : ℕ) (a b : Note) → IsPlayedBy port o table was a b → IsPlayedBy port o table is (ending t a) (ending t b)
+pub played_ended : (port : ℕ) (o : Options) (table : Targets) (was is : Pair → ℕ) (t : ℕ) (a b : Note) → IsPlayedBy port o table was a b →
+    IsPlayedBy port o table is (ending t a) (ending t b)
 played_ended port o table was is t a b h =
-    subst (λ x. IsPlayedBy port o table is x (ending t b)) (sym (ending_form t a)) (subst (λ x. IsPlayedBy port o table is (record a { ended = end_or t a.ended }) x) (sym (ending_form t b))
-    (played_altered port o table was is a b a.release b.release a.captured b.captured a.pressure b.pressure (end_or t a.ended) (end_or t b.ended) h h.release (ap (end_or t) h.ended) (λ g. absurd (never_sounds t a.ended g))))
+    subst (λ x. IsPlayedBy port o table is x (ending t b)) (sym (ending_form t a))
+        (subst (λ x. IsPlayedBy port o table is (record a { ended = end_or t a.ended }) x) (sym (ending_form t b))
+    (played_altered port o table was is a b a.release b.release a.captured b.captured a.pressure b.pressure (end_or t a.ended)
+        (end_or t b.ended) h h.release (ap (end_or t) h.ended) (λ g. absurd (never_sounds t a.ended g))))
 
 pub ending_channel : (t : ℕ) (n : Note) → (ending t n).channel ≡ n.channel
 ending_channel t n = ap (λ (x : Note). x.channel) (ending_form t n)
 
-pub matched_ended : (port : ℕ) (o : Options) (table : Targets) (was is : Pair → ℕ) (t : ℕ) (a b : Note) → IsMatched port o table was a b → IsMatched port o table is (ending t a) (ending t b)
+pub matched_ended : (port : ℕ) (o : Options) (table : Targets) (was is : Pair → ℕ) (t : ℕ) (a b : Note) → IsMatched port o table was a b →
+    IsMatched port o table is (ending t a) (ending t b)
 matched_ended port o table was is t a b h = record {
   retuned = ap (is_part o) (ending_channel t b) ∙ h.retuned ∙ ap (is_part o) (sym (ending_channel t a));
   played = λ p. played_ended port o table was is t a b (h.played (ap (is_part o) (sym (ending_channel t a)) ∙ p));
@@ -102,23 +109,28 @@ is_resets Nothing h = absurd cc
 nothing_there : (k : Moment) (p : Pair) → k.is ≡ [] → Has k.is p → ⊥
 nothing_there k p h i = both_ways false refl (ap (λ ps. is_member is_same_pair ps p) (sym h) ∙ i)
 
-reset_block : (port : ℕ) (o : Options) (table : Targets) (k : Moment) (before out : Music) (t track : ℕ) (w : MidiWhat) → IsPassed w → port_block port o table k before out (port_event t track w) ≡ port_event t track w ∷ []
+reset_block : (port : ℕ) (o : Options) (table : Targets) (k : Moment) (before out : Music) (t track : ℕ) (w : MidiWhat) → IsPassed w →
+    port_block port o table k before out (port_event t track w) ≡ port_event t track w ∷ []
 reset_block port o table k before out t track (Says msg) h = absurd h
 reset_block port o table k before out t track (SysexOf lead bytes) h = refl
 reset_block port o table k before out t track (MetaOf kind bytes) h = refl
 
-pub reset_follows : (Good : State → Type 0) → Laws Good → (port : ℕ) (o : Options) (table : Targets) (used : ℕ → Bool) (k : Moment) (b : Both) (t track : ℕ) (w : MidiWhat) → IsPassed w → resets (doing w) ≡ true →
-    Follows Good port o table used k.old k.was b → IsGiven Good port o table used k b.source (port_event t track w) → Follows Good port o table used k.new k.is (next_both port o table k b (port_event t track w))
+pub reset_follows : (Good : State → Type 0) → Laws Good → (port : ℕ) (o : Options) (table : Targets) (used : ℕ → Bool) (k : Moment) (b : Both)
+    (t track : ℕ) (w : MidiWhat) → IsPassed w → resets (doing w) ≡ true →
+    Follows Good port o table used k.old k.was b → IsGiven Good port o table used k b.source (port_event t track w) →
+        Follows Good port o table used k.new k.is (next_both port o table k b (port_event t track w))
 reset_follows Good laws port o table used k b t track w passed resets_now follows sound =
     let e : MidiEvent = port_event t track w in
     let is : doing w ≡ Resets = is_resets (doing w) resets_now in
     let after : step b.source e ≡ reset t b.source = ap (λ d. advance t d b.source) is in
-    let out : play b.out (port_block port o table k b.source b.out e) ≡ reset t b.out = ap (play b.out) (reset_block port o table k b.source b.out t track w passed) ∙ ap (λ d. advance t d b.out) is in
+    let out : play b.out (port_block port o table k b.source b.out e) ≡ reset t b.out = ap (play b.out)
+        (reset_block port o table k b.source b.out t track w passed) ∙ ap (λ d. advance t d b.out) is in
     let left : ℕ → Channel = λ c. default_channel in
     let none : (p : Pair) → Has k.is p → ⊥ = λ p i. nothing_there k p (sound.reset is) i in
     let x : Both = record { source = reset t b.source; out = reset t b.out; left = left } in
     let done : Follows Good port o table used k.new k.is x = record {
-      notes = pair_map (IsMatched port o table k.old) (IsMatched port o table k.new) (ending t) (ending t) (matched_ended port o table k.old k.new t) b.source.notes b.out.notes follows.notes;
+      notes = pair_map (IsMatched port o table k.old) (IsMatched port o table k.new) (ending t) (ending t)
+          (matched_ended port o table k.old k.new t) b.source.notes b.out.notes follows.notes;
       states = λ c u. same_aside (channel_at (reset t b.out) c) default_channel (all_default 16 c);
       at_wanted = λ p i. absurd (none p i);
       apart = apart_after laws.fade o table b.source t Resets refl follows.apart;
@@ -129,6 +141,7 @@ reset_follows Good laws port o table used k b t track w passed resets_now follow
       out_reached = subst IsReached (ap (λ d. advance t d b.out) is) (reached_play b.out (e ∷ []) (sound.valid, tt) follows.out_reached);
     } in
     let both : Music → Music → Bool → Both = λ m y r. record { source = m; out = y; left = left_after o table k m r b.left } in
-    subst (λ r. Follows Good port o table used k.new k.is (both (step b.source e) (play b.out (port_block port o table k b.source b.out e)) r)) (sym resets_now)
+    subst (λ r. Follows Good port o table used k.new k.is (both (step b.source e) (play b.out (port_block port o table k b.source b.out e)) r))
+        (sym resets_now)
     (subst (λ m. Follows Good port o table used k.new k.is (both m (play b.out (port_block port o table k b.source b.out e)) true)) (sym after)
     (subst (λ y. Follows Good port o table used k.new k.is (both (reset t b.source) y true)) (sym out) done))

@@ -24,7 +24,8 @@ state_after o table runs ports k s e =
     kept_for z (next_played o table (runs z) (s z) n) s
 
 abbrev pub file_from : Options → Targets → (ℕ → PortRuns) → (ℕ → ℕ) → ℕ → (ℕ → Played) → List MidiEvent → List MidiEvent
-file_from o table runs ports k s es = through_ports_from (λ z x n. next_block o table (runs z) x n) (λ z x n. next_played o table (runs z) x n) ports k s es
+file_from o table runs ports k s es = through_ports_from (λ z x n. next_block o table (runs z) x n)
+    (λ z x n. next_played o table (runs z) x n) ports k s es
 
 abbrev pub file_output : Options → Targets → (ℕ → PortRuns) → List MidiEvent → List MidiEvent
 file_output o table runs es = file_from o table runs all_zero 0 (λ z. unplayed) es

@@ -48,7 +48,8 @@ is_one P (n ∷ ns) h k e is = pick (nat_eq n.position k) is (λ g. is_one P ns 
     pick true g f = subst P (let same : n.event ≡ e = cc in same) h.0
     pick false g f = f g
 
-shaped_none : (o : Options) (used : ℕ → Bool) → o.keep_drums ≡ true → (e : MidiEvent) (block : List MidiEvent) → is_drum_message e.what ≡ false → Shaped o used e block → NoDrums block
+shaped_none : (o : Options) (used : ℕ → Bool) → o.keep_drums ≡ true → (e : MidiEvent) (block : List MidiEvent) → is_drum_message e.what ≡ false →
+    Shaped o used e block → NoDrums block
 shaped_none o used keep e block h (inl i) = subst NoDrums (sym i.is) (h, tt)
 shaped_none o used keep e block h (inr c) = subst NoDrums (sym c.is) (all_said c.messages c.right)
   where
@@ -56,16 +57,21 @@ shaped_none o used keep e block h (inr c) = subst NoDrums (sym c.is) (all_said c
     all_said [] r = tt
     all_said (m ∷ ms) r = (no_drum o (channel_of m) keep r.0.1.0, all_said ms r.1)
 
-none_to : (Good : State → Type 0) → Laws Good → (o : Options) (table : Targets) (used : ℕ → Bool) → AreUsed o used → (plan : PortRuns) (ns : List Numbered) (last : ℕ) → IsPlanned Good o table used plan ns last → o.keep_drums ≡ true → NoDrums (unnumbered ns) → (k : ℕ) → k ≤ last →
+none_to : (Good : State → Type 0) → Laws Good → (o : Options) (table : Targets) (used : ℕ → Bool) → AreUsed o used → (plan : PortRuns)
+    (ns : List Numbered) (last : ℕ) → IsPlanned Good o table used plan ns last → o.keep_drums ≡ true → NoDrums (unnumbered ns) → (k : ℕ) →
+    k ≤ last →
     NoDrums (blocks_to o table plan ns k)
 none_to Good laws o table used row plan ns last given keep none zero low = tt
 none_to Good laws o table used row plan ns last given keep none (suc k) low =
-    all_append (λ e. is_drum_message e.what ≡ false) (blocks_to o table plan ns k) (block_if plan.number o table (moment plan k) (both_at o table plan ns k) (port_event ns (suc k)))
+    all_append (λ e. is_drum_message e.what ≡ false) (blocks_to o table plan ns k) (block_if plan.number o table (moment plan k)
+        (both_at o table plan ns k) (port_event ns (suc k)))
     (none_to Good laws o table used row plan ns last given keep none k (omega (arith, low))) (go (port_event ns (suc k)) refl)
   where
     go : (x : Option MidiEvent) → port_event ns (suc k) ≡ x → NoDrums (block_if plan.number o table (moment plan k) (both_at o table plan ns k) x)
     go None is = tt
-    go (Some e) is = shaped_none o used keep e (port_block plan.number o table (moment plan k) (both_at o table plan ns k).source (both_at o table plan ns k).out e) (is_one (λ x. is_drum_message x.what ≡ false) ns none (suc k) e is) (shaped_at Good laws o table used row plan ns last given k low e is)
+    go (Some e) is = shaped_none o used keep e (port_block plan.number o table (moment plan k)
+        (both_at o table plan ns k).source (both_at o table plan ns k).out e) (is_one (λ x. is_drum_message x.what ≡ false) ns none (suc k) e is)
+        (shaped_at Good laws o table used row plan ns last given k low e is)
 
 -- ---- notes
 
@@ -103,14 +109,17 @@ played_none : NotesFade → (m : Music) (es : List MidiEvent) → NoDrums es →
 played_none law m [] h g = g
 played_none law m (e ∷ es) h g =
     played_none law (step m e) es h.1
-    (faded_none (m.notes ++ begun_by m e.tick (doing e.what)) (step m e).notes (law m e.tick (doing e.what)) (all_append (λ (n : Note). nat_eq n.channel 9 ≡ false) m.notes (begun_by m e.tick (doing e.what)) g (begun_none m e.tick e.what h.0)))
+    (faded_none (m.notes ++ begun_by m e.tick (doing e.what)) (step m e).notes (law m e.tick (doing e.what))
+        (all_append (λ (n : Note). nat_eq n.channel 9 ≡ false) m.notes (begun_by m e.tick (doing e.what)) g (begun_none m e.tick e.what h.0)))
 
 until_none : (t : ℕ) (es : List MidiEvent) → NoDrums es → NoDrums (until t es)
 until_none t [] h = tt
-until_none t (e ∷ es) h = cond_both (nat_le e.tick t) (e ∷ until t es) (until t es) NoDrums (λ k. (h.0, until_none t es h.1)) (λ k. until_none t es h.1)
+until_none t (e ∷ es) h = cond_both (nat_le e.tick t) (e ∷ until t es) (until t es) NoDrums (λ k. (h.0, until_none t es h.1))
+    (λ k. until_none t es h.1)
 
 tick_none : NotesFade → (t : ℕ) (es : List MidiEvent) → NoDrums es → NoDrumNotes (at_tick t es).music.notes
-tick_none law t es h = subst (λ (m : Music). NoDrumNotes m.notes) (sym (music_all start (until t es))) (played_none law quiet (until t es) (until_none t es h) tt)
+tick_none law t es h = subst (λ (m : Music). NoDrumNotes m.notes) (sym (music_all start (until t es)))
+    (played_none law quiet (until t es) (until_none t es h) tt)
 
 -- ---- the two tests agree elsewhere
 
@@ -120,13 +129,16 @@ either false false c h = refl
 either true false c h = ap not h
 either false true c h = sym (ap not h)
 
-either_notes : (a b : Bool) (ns : List Note) → NoDrumNotes ns → filter (λ (n : Note). is_retuned a n.channel) ns ≡ filter (λ (n : Note). is_retuned b n.channel) ns
+either_notes : (a b : Bool) (ns : List Note) → NoDrumNotes ns → filter (λ (n : Note). is_retuned a n.channel) ns
+    ≡ filter (λ (n : Note). is_retuned b n.channel) ns
 either_notes a b [] h = refl
 either_notes a b (n ∷ ns) h =
-    ap (λ x. cond x (n ∷ filter (λ (y : Note). is_retuned a y.channel) ns) (filter (λ (y : Note). is_retuned a y.channel) ns)) (either a b n.channel h.0)
+    ap (λ x. cond x (n ∷ filter (λ (y : Note). is_retuned a y.channel) ns) (filter (λ (y : Note). is_retuned a y.channel) ns))
+        (either a b n.channel h.0)
     ∙ ap (λ ys. cond (is_retuned b n.channel) (n ∷ ys) ys) (either_notes a b ns h.1)
 
-either_message : (a b : Bool) (msg : Msg) → nat_eq (channel_of msg) 9 ≡ false → begins_note (is_retuned a) (Says msg) ≡ begins_note (is_retuned b) (Says msg)
+either_message : (a b : Bool) (msg : Msg) → nat_eq (channel_of msg) 9 ≡ false → begins_note (is_retuned a) (Says msg) ≡ begins_note (is_retuned b)
+    (Says msg)
 either_message a b (NoteOn c k zero) h = refl
 either_message a b (NoteOn c k (suc v)) h = either a b c h
 either_message a b (NoteOff c k v) h = refl
@@ -141,7 +153,8 @@ either_begins a b (Says msg) h = either_message a b msg h
 either_begins a b (SysexOf lead bytes) h = refl
 either_begins a b (MetaOf kind bytes) h = refl
 
-either_beginnings : (a b : Bool) (before es : List MidiEvent) → NoDrums es → beginnings_from (is_retuned a) before es ≡ beginnings_from (is_retuned b) before es
+either_beginnings : (a b : Bool) (before es : List MidiEvent) → NoDrums es → beginnings_from (is_retuned a) before es
+    ≡ beginnings_from (is_retuned b) before es
 either_beginnings a b before [] h = refl
 either_beginnings a b before (e ∷ es) h =
     let now : List MidiEvent = before ++ e ∷ [] in
@@ -155,16 +168,23 @@ pub record AreSame (scaling : Scaling) (o : Options) (table : Targets) (drums : 
   pub sound : HasSameSound scaling o (plain_device o) (is_retuned drums) source out
   pub beginnings : BeginsTheSame scaling o (plain_device o) (is_retuned drums) source out
 
-either_same : NotesFade → (scaling : Scaling) (o : Options) (table : Targets) (a b : Bool) (source out : List MidiEvent) → NoDrums source → NoDrums out → AreSame scaling o table a source out → AreSame scaling o table b source out
+either_same : NotesFade → (scaling : Scaling) (o : Options) (table : Targets) (a b : Bool) (source out : List MidiEvent) → NoDrums source →
+    NoDrums out → AreSame scaling o table a source out → AreSame scaling o table b source out
 either_same law scaling o table a b source out none_source none_out h = record {
-  notes = λ t. subst (λ xs. Pairwise (IsSameNote (output_key o table)) xs (retuned_notes (is_retuned b) (at_tick t out))) (either_notes a b (at_tick t source).music.notes (tick_none law t source none_source))
-      (subst (Pairwise (IsSameNote (output_key o table)) (retuned_notes (is_retuned a) (at_tick t source))) (either_notes a b (at_tick t out).music.notes (tick_none law t out none_out)) (h.notes t));
+  notes = λ t. subst (λ xs. Pairwise (IsSameNote (output_key o table)) xs (retuned_notes (is_retuned b) (at_tick t out)))
+      (either_notes a b (at_tick t source).music.notes (tick_none law t source none_source))
+      (subst (Pairwise (IsSameNote (output_key o table)) (retuned_notes (is_retuned a) (at_tick t source)))
+          (either_notes a b (at_tick t out).music.notes (tick_none law t out none_out)) (h.notes t));
   sound = λ t.
       let R : Note → Note → Type 0 = λ x y. sounds x ≡ true → SoundsTheSame scaling o (plain_device o) (until t source) (until t out) x y in
-      subst (λ xs. Pairwise R xs (retuned_notes (is_retuned b) (at_tick t out))) (either_notes a b (at_tick t source).music.notes (tick_none law t source none_source))
-      (subst (Pairwise R (retuned_notes (is_retuned a) (at_tick t source))) (either_notes a b (at_tick t out).music.notes (tick_none law t out none_out)) (h.sound t));
-  beginnings = subst (λ xs. Pairwise (BeginsAlike scaling o (plain_device o)) xs (beginnings (is_retuned b) out)) (either_beginnings a b [] source none_source)
-      (subst (Pairwise (BeginsAlike scaling o (plain_device o)) (beginnings (is_retuned a) source)) (either_beginnings a b [] out none_out) h.beginnings);
+      subst (λ xs. Pairwise R xs (retuned_notes (is_retuned b) (at_tick t out)))
+          (either_notes a b (at_tick t source).music.notes (tick_none law t source none_source))
+      (subst (Pairwise R (retuned_notes (is_retuned a) (at_tick t source)))
+          (either_notes a b (at_tick t out).music.notes (tick_none law t out none_out)) (h.sound t));
+  beginnings = subst (λ xs. Pairwise (BeginsAlike scaling o (plain_device o)) xs (beginnings (is_retuned b) out))
+      (either_beginnings a b [] source none_source)
+      (subst (Pairwise (BeginsAlike scaling o (plain_device o)) (beginnings (is_retuned a) source))
+          (either_beginnings a b [] out none_out) h.beginnings);
 }
 
 and_true : (a b : Bool) → b ≡ true → (a && b) ≡ a
@@ -175,8 +195,10 @@ and_none : (a b : Bool) → a ≡ false → (a && b) ≡ a
 and_none true b h = absurd cc
 and_none false b h = refl
 
-pub plays_same_music : (Good : State → Type 0) → Laws Good → (scaling : Scaling) (o : Options) (table : Targets) (used : ℕ → Bool) → AreUsed o used → (plan : PortRuns) (ns : List Numbered) (last : ℕ) → IsPlanned Good o table used plan ns last → AreTimely ns last →
-    AreSame scaling o table o.keep_drums (unnumbered ns) (port_output o table plan quiet quiet ns) → PlaysTheSameMusic scaling o table (plain_device o) (unnumbered ns) (port_output o table plan quiet quiet ns)
+pub plays_same_music : (Good : State → Type 0) → Laws Good → (scaling : Scaling) (o : Options) (table : Targets) (used : ℕ → Bool) →
+    AreUsed o used → (plan : PortRuns) (ns : List Numbered) (last : ℕ) → IsPlanned Good o table used plan ns last → AreTimely ns last →
+    AreSame scaling o table o.keep_drums (unnumbered ns) (port_output o table plan quiet quiet ns) →
+        PlaysTheSameMusic scaling o table (plain_device o) (unnumbered ns) (port_output o table plan quiet quiet ns)
 plays_same_music Good laws scaling o table used row plan ns last given timely h =
     let source : List MidiEvent = unnumbered ns in
     let out : List MidiEvent = port_output o table plan quiet quiet ns in
@@ -186,7 +208,8 @@ plays_same_music Good laws scaling o table used row plan ns last given timely h 
       | inr none ↦ elim (cases_Bool o.keep_drums) [
         | inr lost ↦ subst S (sym (and_none o.keep_drums (has_drums source) lost)) h
         | inl keep ↦ either_same laws.fade scaling o table o.keep_drums (keeps_drums o source) source out (none_has source none)
-            (subst NoDrums (all_blocks o table plan ns last timely) (none_to Good laws o table used row plan ns last given keep (none_has source none) last (omega arith))) h
+            (subst NoDrums (all_blocks o table plan ns last timely)
+                (none_to Good laws o table used row plan ns last given keep (none_has source none) last (omega arith))) h
       ]
     ] in
     record { notes = is.notes; sound = is.sound; beginnings = is.beginnings }

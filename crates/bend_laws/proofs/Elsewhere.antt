@@ -39,7 +39,8 @@ itself : (c : ℕ) (n : Note) → IsElsewhere c n n
 itself c n = record { stays = λ h. refl; channel = refl }
 
 one_if : (c : ℕ) (b : Bool) (n x : Note) → (n.channel ≢ c → b ≡ false) → x.channel ≡ n.channel → IsElsewhere c n (cond b x n)
-one_if c b n x h g = record { stays = λ e. ap (λ q. cond q x n) (h e); channel = cond_both b x n (λ (y : Note). y.channel ≡ n.channel) (λ e. g) (λ e. refl) }
+one_if c b n x h g = record { stays = λ e. ap (λ q. cond q x n) (h e); channel = cond_both b x n (λ (y : Note). y.channel ≡ n.channel) (λ e. g)
+    (λ e. refl) }
 
 then_too : (c : ℕ) (n x y : Note) → IsElsewhere c n x → IsElsewhere c x y → IsElsewhere c n y
 then_too c n x y h k = record { stays = λ e. k.stays (λ i. e (sym h.channel ∙ i)) ∙ h.stays e; channel = k.channel ∙ h.channel }
@@ -96,15 +97,22 @@ unchanged : (m : Music) (c : ℕ) → AreElsewhere m c [] m.notes
 unchanged m c = mapped m c (λ n. n) m.notes (sym (map_same (λ n. n) (λ n. refl) m.notes)) (itself c)
 
 turned_else : (m : Music) (t c n v : ℕ) (r : Role) → m.zones ≡ no_zones → AreElsewhere m c [] (notes_turned m t c n v r)
-turned_else m t c n v Stored z = cond_both (nat_eq n 66) (map (sostenuto m.zones c (control_of (channel_at m c) 66) v) m.notes) m.notes (AreElsewhere m c [])
-    (λ e. mapped m c (sostenuto no_zones c (control_of (channel_at m c) 66) v) (map (sostenuto m.zones c (control_of (channel_at m c) 66) v) m.notes) (ap (λ w. map (sostenuto w c (control_of (channel_at m c) 66) v) m.notes) z) (sostenuto_else c (control_of (channel_at m c) 66) v))
+turned_else m t c n v Stored z = cond_both (nat_eq n 66)
+    (map (sostenuto m.zones c (control_of (channel_at m c) 66) v) m.notes) m.notes (AreElsewhere m c [])
+    (λ e. mapped m c (sostenuto no_zones c (control_of (channel_at m c) 66) v)
+        (map (sostenuto m.zones c (control_of (channel_at m c) 66) v) m.notes)
+        (ap (λ w. map (sostenuto w c (control_of (channel_at m c) 66) v) m.notes) z) (sostenuto_else c (control_of (channel_at m c) 66) v))
     (λ e. unchanged m c)
 turned_else m t c n v ResetControllers z =
     let x : ℕ = control_of (channel_at m c) 66 in
-    mapped m c (λ a. without_pressure c (sostenuto no_zones c x 0 a)) (map (λ a. without_pressure c (sostenuto m.zones c x 0 a)) m.notes) (ap (λ w. map (λ a. without_pressure c (sostenuto w c x 0 a)) m.notes) z)
-    (λ a. then_too c a (sostenuto no_zones c x 0 a) (without_pressure c (sostenuto no_zones c x 0 a)) (sostenuto_else c x 0 a) (relax_else c (sostenuto no_zones c x 0 a)))
-turned_else m t c n v AllSoundOff z = mapped m c (end_all t no_zones c) (map (end_all t m.zones c) m.notes) (ap (λ w. map (end_all t w c) m.notes) z) (end_else t c)
-turned_else m t c n v AllNotesOff z = mapped m c (release_all t no_zones c) (map (release_all t m.zones c) m.notes) (ap (λ w. map (release_all t w c) m.notes) z) (off_else t c)
+    mapped m c (λ a. without_pressure c (sostenuto no_zones c x 0 a)) (map (λ a. without_pressure c (sostenuto m.zones c x 0 a)) m.notes)
+        (ap (λ w. map (λ a. without_pressure c (sostenuto w c x 0 a)) m.notes) z)
+    (λ a. then_too c a (sostenuto no_zones c x 0 a) (without_pressure c (sostenuto no_zones c x 0 a)) (sostenuto_else c x 0 a)
+        (relax_else c (sostenuto no_zones c x 0 a)))
+turned_else m t c n v AllSoundOff z = mapped m c (end_all t no_zones c) (map (end_all t m.zones c) m.notes)
+    (ap (λ w. map (end_all t w c) m.notes) z) (end_else t c)
+turned_else m t c n v AllNotesOff z = mapped m c (release_all t no_zones c) (map (release_all t m.zones c) m.notes)
+    (ap (λ w. map (release_all t w c) m.notes) z) (off_else t c)
 turned_else m t c n v EntryHigh z = unchanged m c
 turned_else m t c n v EntryLow z = unchanged m c
 turned_else m t c n v NrpnLow z = unchanged m c
@@ -131,7 +139,8 @@ pub record GoesOn (m : Music) (c : ℕ) (new : List Note) (x : Music) : Type 0 w
   pub others : (d : ℕ) → d ≢ c → channel_at x d ≡ channel_at m d
   pub zones : x.zones ≡ no_zones
 
-new_settles : (ss : List Channel) (m : Music) (t : ℕ) (msg : Msg) → map (settle_note ss no_zones t) (begun_by m t (Plays msg)) ≡ begun_by m t (Plays msg)
+new_settles : (ss : List Channel) (m : Music) (t : ℕ) (msg : Msg) → map (settle_note ss no_zones t)
+    (begun_by m t (Plays msg)) ≡ begun_by m t (Plays msg)
 new_settles ss m t (NoteOn c k zero) = refl
 new_settles ss m t (NoteOn c k (suc v)) = refl
 new_settles ss m t (NoteOff c k v) = refl
@@ -144,7 +153,8 @@ new_settles ss m t (Bend c v) = refl
 settle_channel : (ss : List Channel) (t : ℕ) (n : Note) → (settle_note ss no_zones t n).channel ≡ n.channel
 settle_channel ss t n = cond_both (is_over ss no_zones n) (ending t n) n (λ (y : Note). y.channel ≡ n.channel) (λ e. ending_channel t n) (λ e. refl)
 
-pub goes_on : (m : Music) (t : ℕ) (msg : Msg) → m.zones ≡ no_zones → IsSettled m → asks m msg ≡ None → GoesOn m (channel_of msg) (begun_by m t (Plays msg)) (advance t (Plays msg) m)
+pub goes_on : (m : Music) (t : ℕ) (msg : Msg) → m.zones ≡ no_zones → IsSettled m → asks m msg ≡ None → GoesOn m (channel_of msg)
+    (begun_by m t (Plays msg)) (advance t (Plays msg) m)
 goes_on m t msg z s h =
     let c : ℕ = channel_of msg in
     let own : Channel = apply (channel_at m c) msg in
@@ -154,8 +164,10 @@ goes_on m t msg z s h =
     let x : Music = record { channels = ss; zones = m.zones; notes = map (settle_note ss m.zones t) (notes_after m t msg) } in
     let is : GoesOn m c new x = record {
       turn = λ n. settle_note ss no_zones t (k.turn n);
-      notes = ap (λ w. map (settle_note ss w t) (notes_after m t msg)) z ∙ ap (map (settle_note ss no_zones t)) k.notes ∙ map_append (settle_note ss no_zones t) (map k.turn m.notes) new
-          ∙ ap (λ ns. ns ++ map (settle_note ss no_zones t) new) (map_map (settle_note ss no_zones t) k.turn m.notes) ∙ ap (λ ns. map (λ n. settle_note ss no_zones t (k.turn n)) m.notes ++ ns) (new_settles ss m t msg);
+      notes = ap (λ w. map (settle_note ss w t) (notes_after m t msg)) z ∙ ap (map (settle_note ss no_zones t)) k.notes
+          ∙ map_append (settle_note ss no_zones t) (map k.turn m.notes) new
+          ∙ ap (λ ns. ns ++ map (settle_note ss no_zones t) new) (map_map (settle_note ss no_zones t) k.turn m.notes)
+              ∙ ap (λ ns. map (λ n. settle_note ss no_zones t (k.turn n)) m.notes ++ ns) (new_settles ss m t msg);
       each = all_weaker (Stays m.channels) (λ n. IsElsewhere c n (settle_note ss no_zones t (k.turn n)))
           (λ n g. record {
             stays = λ e. ap (settle_note ss no_zones t) ((k.each n).stays e) ∙ settle_elsewhere m.channels c own t n e g;
@@ -168,9 +180,11 @@ goes_on m t msg z s h =
 
 -- ---- drums
 
-pub drum_block : (port : ℕ) (o : Options) (table : Targets) (k : Moment) (before out : Music) (t track : ℕ) (msg : Msg) → is_part o (channel_of msg) ≡ false → port_block port o table k before out (said_at t track msg) ≡ said_at t track msg ∷ []
+pub drum_block : (port : ℕ) (o : Options) (table : Targets) (k : Moment) (before out : Music) (t track : ℕ) (msg : Msg) →
+    is_part o (channel_of msg) ≡ false → port_block port o table k before out (said_at t track msg) ≡ said_at t track msg ∷ []
 drum_block port o table k before out t track msg h =
-    ap (λ b. placed_at (said_at t track msg) (cond b (map Says (part_causes port o table k before (step before (said_at t track msg)) out t msg)) (Says msg ∷ []))) h
+    ap (λ b. placed_at (said_at t track msg) (cond b (map Says (part_causes port o table k before (step before (said_at t track msg)) out t msg))
+        (Says msg ∷ []))) h
 
 no_entry : (o : Options) (m : Music) (msg : Msg) → is_part o (channel_of msg) ≡ false → is_zone_entry o m msg ≡ false
 no_entry o m (NoteOn c k v) h = refl
@@ -181,7 +195,8 @@ no_entry o m (Program c p) h = refl
 no_entry o m (Pressure c v) h = refl
 no_entry o m (Bend c v) h = refl
 
-drum_begins : (port : ℕ) (o : Options) (table : Targets) (t : ℕ) (msg : Msg) → is_part o (channel_of msg) ≡ false → (p : Pair) → Begins port o table t (Says msg) p → ⊥
+drum_begins : (port : ℕ) (o : Options) (table : Targets) (t : ℕ) (msg : Msg) → is_part o (channel_of msg) ≡ false → (p : Pair) →
+    Begins port o table t (Says msg) p → ⊥
 drum_begins port o table t (NoteOn c k zero) h p b = b
 drum_begins port o table t (NoteOn c k (suc v)) h p b = both_ways (is_part o c) h b.0
 drum_begins port o table t (NoteOff c k v) h p b = b
@@ -191,7 +206,8 @@ drum_begins port o table t (Program c x) h p b = b
 drum_begins port o table t (Pressure c v) h p b = b
 drum_begins port o table t (Bend c v) h p b = b
 
-drum_new : (port : ℕ) (o : Options) (table : Targets) (place : Pair → ℕ) (m x : Music) (t : ℕ) (msg : Msg) → is_part o (channel_of msg) ≡ false → Pairwise (IsMatched port o table place) (begun_by m t (Plays msg)) (begun_by x t (Plays msg))
+drum_new : (port : ℕ) (o : Options) (table : Targets) (place : Pair → ℕ) (m x : Music) (t : ℕ) (msg : Msg) → is_part o (channel_of msg) ≡ false →
+    Pairwise (IsMatched port o table place) (begun_by m t (Plays msg)) (begun_by x t (Plays msg))
 drum_new port o table place m x t (NoteOn c k zero) h = tt
 drum_new port o table place m x t (NoteOn c k (suc v)) h = (record { retuned = refl; played = λ p. absurd (both_ways (is_part o c) h p) }, tt)
 drum_new port o table place m x t (NoteOff c k v) h = tt
@@ -202,7 +218,8 @@ drum_new port o table place m x t (Pressure c v) h = tt
 drum_new port o table place m x t (Bend c v) h = tt
 
 -- a note that is no part's stands apart from all
-pub apart_append : (o : Options) (table : Targets) (ns : List Note) (n : Note) → AreApart o table ns → AllByRecursion (λ a. AreTwo o table a n) ns → AreApart o table (ns ++ n ∷ [])
+pub apart_append : (o : Options) (table : Targets) (ns : List Note) (n : Note) → AreApart o table ns →
+    AllByRecursion (λ a. AreTwo o table a n) ns → AreApart o table (ns ++ n ∷ [])
 apart_append o table [] n h g = (tt, tt)
 apart_append o table (a ∷ rest) n h g = (all_append_one rest h.0 g.0, apart_append o table rest n h.1 g.1)
   where
@@ -213,7 +230,8 @@ apart_append o table (a ∷ rest) n h g = (all_append_one rest h.0 g.0, apart_ap
 apart_none : (o : Options) (table : Targets) (ns : List Note) → AreApart o table ns → AreApart o table (ns ++ [])
 apart_none o table ns h = subst (AreApart o table) (sym (append-nil ns)) h
 
-drum_apart : (o : Options) (table : Targets) (m : Music) (t : ℕ) (msg : Msg) → is_part o (channel_of msg) ≡ false → AreApart o table m.notes → AreApart o table (m.notes ++ begun_by m t (Plays msg))
+drum_apart : (o : Options) (table : Targets) (m : Music) (t : ℕ) (msg : Msg) → is_part o (channel_of msg) ≡ false → AreApart o table m.notes →
+    AreApart o table (m.notes ++ begun_by m t (Plays msg))
 drum_apart o table m t (NoteOn c k zero) h a = apart_none o table m.notes a
 drum_apart o table m t (NoteOn c k (suc v)) h a =
     apart_append o table m.notes (begun m t c k (suc v)) a (all_always (λ n. AreTwo o table n (begun m t c k (suc v)))
@@ -228,7 +246,8 @@ drum_apart o table m t (Program c p) h a = apart_none o table m.notes a
 drum_apart o table m t (Pressure c v) h a = apart_none o table m.notes a
 drum_apart o table m t (Bend c v) h a = apart_none o table m.notes a
 
-drum_matched : (port : ℕ) (o : Options) (table : Targets) (place : Pair → ℕ) (c : ℕ) (f g : Note → Note) (a b : Note) → is_part o c ≡ false → (IsMatched port o table place a b × IsElsewhere c a (f a)) × IsElsewhere c b (g b) → IsMatched port o table place (f a) (g b)
+drum_matched : (port : ℕ) (o : Options) (table : Targets) (place : Pair → ℕ) (c : ℕ) (f g : Note → Note) (a b : Note) → is_part o c ≡ false →
+    (IsMatched port o table place a b × IsElsewhere c a (f a)) × IsElsewhere c b (g b) → IsMatched port o table place (f a) (g b)
 drum_matched port o table place c f g a b h ((m, i), j) = record {
   retuned = ap (is_part o) j.channel ∙ m.retuned ∙ ap (is_part o) (sym i.channel);
   played = λ p.
@@ -238,25 +257,37 @@ drum_matched port o table place c f g a b h ((m, i), j) = record {
       subst (λ x. IsPlayedBy port o table place x (g b)) (sym a_same) (subst (λ x. IsPlayedBy port o table place a x) (sym b_same) (m.played part));
 }
 
-pub drum_follows : (Good : State → Type 0) → Laws Good → (port : ℕ) (o : Options) (table : Targets) (used : ℕ → Bool) → AreUsed o used → (k : Moment) (b : Both) (t track : ℕ) (msg : Msg) → is_part o (channel_of msg) ≡ false →
-    Follows Good port o table used k.old k.was b → IsGiven Good port o table used k b.source (said_at t track msg) → Follows Good port o table used k.new k.is (next_both port o table k b (said_at t track msg))
+pub drum_follows : (Good : State → Type 0) → Laws Good → (port : ℕ) (o : Options) (table : Targets) (used : ℕ → Bool) → AreUsed o used →
+    (k : Moment) (b : Both) (t track : ℕ) (msg : Msg) → is_part o (channel_of msg) ≡ false →
+    Follows Good port o table used k.old k.was b → IsGiven Good port o table used k b.source (said_at t track msg) →
+        Follows Good port o table used k.new k.is (next_both port o table k b (said_at t track msg))
 drum_follows Good laws port o table used row k b t track msg drum follows sound =
     let e : MidiEvent = said_at t track msg in
     let c : ℕ = channel_of msg in
     let after : Music = step b.source e in
     let out : Music = advance t (Plays msg) b.out in
-    let s : GoesOn b.source c (begun_by b.source t (Plays msg)) after = goes_on b.source t msg follows.source_zones follows.source_settled (laws.zones o b.source msg (no_entry o b.source msg drum)) in
-    let x : GoesOn b.out c (begun_by b.out t (Plays msg)) out = goes_on b.out t msg follows.out_zones (settled_reached laws.settle b.out follows.out_reached) (laws.zones o b.out msg (no_entry o b.out msg drum)) in
+    let s : GoesOn b.source c (begun_by b.source t (Plays msg)) after =
+        goes_on b.source t msg follows.source_zones follows.source_settled (laws.zones o b.source msg (no_entry o b.source msg drum)) in
+    let x : GoesOn b.out c (begun_by b.out t (Plays msg)) out =
+        goes_on b.out t msg follows.out_zones (settled_reached laws.settle b.out follows.out_reached)
+        (laws.zones o b.out msg (no_entry o b.out msg drum)) in
     let not_drum : (d : ℕ) → is_part o d ≡ true → d ≢ c = λ d p i. both_ways (is_part o c) drum (ap (is_part o) (sym i) ∙ p) in
     let old : Pairwise (IsMatched port o table k.old) (map s.turn b.source.notes) (map x.turn b.out.notes) =
-    pair_map (λ a y. (IsMatched port o table k.old a y × IsElsewhere c a (s.turn a)) × IsElsewhere c y (x.turn y)) (IsMatched port o table k.old) s.turn x.turn (λ a y q. drum_matched port o table k.old c s.turn x.turn a y drum q) b.source.notes b.out.notes
-    (pair_with_second (λ a y. IsMatched port o table k.old a y × IsElsewhere c a (s.turn a)) (λ y. IsElsewhere c y (x.turn y)) b.source.notes b.out.notes
+    pair_map (λ a y. (IsMatched port o table k.old a y × IsElsewhere c a (s.turn a)) × IsElsewhere c y (x.turn y))
+        (IsMatched port o table k.old) s.turn x.turn (λ a y q. drum_matched port o table k.old c s.turn x.turn a y drum q) b.source.notes b.out.notes
+    (pair_with_second (λ a y. IsMatched port o table k.old a y × IsElsewhere c a (s.turn a))
+        (λ y. IsElsewhere c y (x.turn y)) b.source.notes b.out.notes
     (pair_along (IsMatched port o table k.old) (λ a. IsElsewhere c a (s.turn a)) b.source.notes b.out.notes follows.notes s.each) x.each) in
-    let all : Pairwise (IsMatched port o table k.old) (map s.turn b.source.notes ++ begun_by b.source t (Plays msg)) (map x.turn b.out.notes ++ begun_by b.out t (Plays msg)) =
-    pair_append (IsMatched port o table k.old) (map s.turn b.source.notes) (begun_by b.source t (Plays msg)) (map x.turn b.out.notes) (begun_by b.out t (Plays msg)) old (drum_new port o table k.old b.source b.out t msg drum) in
+    let all : Pairwise (IsMatched port o table k.old) (map s.turn b.source.notes ++ begun_by b.source t (Plays msg))
+        (map x.turn b.out.notes ++ begun_by b.out t (Plays msg)) =
+    pair_append (IsMatched port o table k.old) (map s.turn b.source.notes) (begun_by b.source t (Plays msg)) (map x.turn b.out.notes)
+        (begun_by b.out t (Plays msg)) old (drum_new port o table k.old b.source b.out t msg drum) in
     let still : StandsStill port o table used k b after out = record {
-      notes = subst (λ ns. Pairwise (IsMatched port o table k.old) ns out.notes) (sym s.notes) (subst (λ ns. Pairwise (IsMatched port o table k.old) (map s.turn b.source.notes ++ begun_by b.source t (Plays msg)) ns) (sym x.notes) all);
-      apart = apart_fades o table (b.source.notes ++ begun_by b.source t (Plays msg)) after.notes (laws.fade b.source t (Plays msg)) (drum_apart o table b.source t msg drum follows.apart);
+      notes = subst (λ ns. Pairwise (IsMatched port o table k.old) ns out.notes) (sym s.notes)
+          (subst (λ ns. Pairwise (IsMatched port o table k.old) (map s.turn b.source.notes ++ begun_by b.source t (Plays msg)) ns)
+          (sym x.notes) all);
+      apart = apart_fades o table (b.source.notes ++ begun_by b.source t (Plays msg)) after.notes (laws.fade b.source t (Plays msg))
+          (drum_apart o table b.source t msg drum follows.apart);
       source = λ d p. s.others d (not_drum d p);
       out = λ d u. x.others d (not_drum d (row.retuned d u));
       source_zones = s.zones;
@@ -264,7 +295,9 @@ drum_follows Good laws port o table used row k b t track msg drum follows sound 
       out_zones = x.zones;
       out_reached = reached_play b.out (e ∷ []) (sound.valid, tt) follows.out_reached;
     } in
-    let same : play b.out (port_block port o table k b.source b.out e) ≡ out = ap (play b.out) (drum_block port o table k b.source b.out t track msg drum) in
+    let same : play b.out (port_block port o table k b.source b.out e) ≡ out = ap (play b.out)
+        (drum_block port o table k b.source b.out t track msg drum) in
     follows_next Good port o table used k b e follows sound refl
-    (still_stepped Good port o table used k b e (play b.out (port_block port o table k b.source b.out e)) follows sound (quiet_moment Good port o table used k b.source e sound (drum_begins port o table t msg drum))
+    (still_stepped Good port o table used k b e (play b.out (port_block port o table k b.source b.out e)) follows sound
+        (quiet_moment Good port o table used k b.source e sound (drum_begins port o table t msg drum))
     (subst (StandsStill port o table used k b after) (sym same) still))

@@ -26,7 +26,8 @@ pub same_pair : (p q : Pair) → is_same_pair p q ≡ true → p ≡ q
 same_pair p q h =
     let e = and_parts (is_same_part p.part q.part) (int_eq p.steps q.steps) h in
     let f = and_parts (nat_eq p.part.port q.part.port) (nat_eq p.part.channel q.part.channel) e.0 in
-    ap (λ x. made x p.part.channel p.steps) (eqb-true p.part.port q.part.port f.0) ∙ ap (λ x. made q.part.port x p.steps) (eqb-true p.part.channel q.part.channel f.1)
+    ap (λ x. made x p.part.channel p.steps) (eqb-true p.part.port q.part.port f.0) ∙ ap (λ x. made q.part.port x p.steps)
+        (eqb-true p.part.channel q.part.channel f.1)
     ∙ ap (λ y. made q.part.port q.part.channel y) (same_int p.steps q.steps e.1)
 
 pub part_itself : (p : Part) → is_same_part p p ≡ true
@@ -39,7 +40,8 @@ pub other_pair : (p q : Pair) → is_same_pair p q ≡ false → p ≢ q
 other_pair p q h e = both_ways (is_same_pair p q) h (ap (λ x. is_same_pair p x) (sym e) ∙ pair_itself p)
 
 pub same_target : (a b : BendTarget) → a.key ≡ b.key → a.steps ≡ b.steps → is_same_target (Some a) (Some b) ≡ true
-same_target a b h k = and_from (nat_eq a.key b.key) (int_eq a.steps b.steps) (eq-eqb a.key b.key h) (ap (λ s. int_eq a.steps s) (sym k) ∙ int_itself a.steps)
+same_target a b h k = and_from (nat_eq a.key b.key) (int_eq a.steps b.steps) (eq-eqb a.key b.key h)
+    (ap (λ s. int_eq a.steps s) (sym k) ∙ int_itself a.steps)
 
 pub target_key : (a b : BendTarget) → is_same_target (Some a) (Some b) ≡ true → a.key ≡ b.key
 target_key a b h = eqb-true a.key b.key (and_parts (nat_eq a.key b.key) (int_eq a.steps b.steps) h).0

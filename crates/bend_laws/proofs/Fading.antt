@@ -7,7 +7,8 @@ use Rattle.midi_model.specs.Notes.{Note, Fades}
 use Rattle.midi_model.specs.Music.{Music}
 use Rattle.midi_model.specs.MusicLaws.{AllFade, begun_by}
 
-pub faded : (R : Note → Type 0) → ((a b : Note) → Fades a b → R a → R b) → (ns xs : List Note) → AllFade ns xs → AllByRecursion R ns → AllByRecursion R xs
+pub faded : (R : Note → Type 0) → ((a b : Note) → Fades a b → R a → R b) → (ns xs : List Note) → AllFade ns xs → AllByRecursion R ns →
+    AllByRecursion R xs
 faded R f [] [] h k = tt
 faded R f [] (x ∷ xs) h k = absurd h
 faded R f (n ∷ ns) [] h k = absurd h

@@ -39,36 +39,43 @@ use Rattle.bend_laws.proofs.Simulates.{follows_at}
 use Rattle.bend_laws.proofs.Leaving.{IsLane, left_as}
 
 -- a port of the file, with its plan
-record OnPort (o : Options) (allowed : ℕ → Bool) (table : Targets) (es : List MidiEvent) (need : ℕ → ℕ) (channel : ℕ → ℕ → Pair → ℕ) (z : ℕ) : Type 0 where
+record OnPort (o : Options) (allowed : ℕ → Bool) (table : Targets) (es : List MidiEvent) (need : ℕ → ℕ) (channel : ℕ → ℕ → Pair → ℕ)
+    (z : ℕ) : Type 0 where
   used : AreUsed o (uses o allowed (need z))
   planned : IsPlanned IsWellFormed o table (uses o allowed (need z)) (runs_on o table es channel z) (of_port z es) (length es)
   timely : AreTimely (of_port z es) (length es)
 
-on_port : PortFacts → (o : Options) (allowed : ℕ → Bool) (table : Targets) (es : List MidiEvent) (need : ℕ → ℕ) (channel : ℕ → ℕ → Pair → ℕ) → IsBent o allowed table es need channel → (z : ℕ) → OnPort o allowed table es need channel z
+on_port : PortFacts → (o : Options) (allowed : ℕ → Bool) (table : Targets) (es : List MidiEvent) (need : ℕ → ℕ) (channel : ℕ → ℕ → Pair → ℕ) →
+    IsBent o allowed table es need channel → (z : ℕ) → OnPort o allowed table es need channel z
 on_port f o allowed table es need channel b z = record {
   used = row_used o allowed (need z) b.route;
   planned = planned_port f o allowed table es need channel b z;
   timely = timely_port f.timed o allowed table es need channel b z;
 }
 
-pub port_plays : Laws IsWellFormed → PortFacts → (o : Options) (allowed : ℕ → Bool) (table : Targets) (es : List MidiEvent) (need : ℕ → ℕ) (channel : ℕ → ℕ → Pair → ℕ) → IsBent o allowed table es need channel → (z k : ℕ) → k ≤ length es →
-    (let runs = runs_on o table es channel z in PlaysAt o table (uses o allowed (need z)) runs (of_port z es) k (both_at o table runs (of_port z es) k))
+pub port_plays : Laws IsWellFormed → PortFacts → (o : Options) (allowed : ℕ → Bool) (table : Targets) (es : List MidiEvent) (need : ℕ → ℕ)
+    (channel : ℕ → ℕ → Pair → ℕ) → IsBent o allowed table es need channel → (z k : ℕ) → k ≤ length es →
+    (let runs = runs_on o table es channel z in PlaysAt o table (uses o allowed (need z)) runs (of_port z es) k
+        (both_at o table runs (of_port z es) k))
 port_plays laws f o allowed table es need channel b z k low =
     let p : OnPort o allowed table es need channel z = on_port f o allowed table es need channel b z in
     plays_at IsWellFormed laws o table (uses o allowed (need z)) p.used (runs_on o table es channel z) (of_port z es) (length es) p.planned k low
 
-pub port_blocks : PortFacts → (o : Options) (allowed : ℕ → Bool) (table : Targets) (es : List MidiEvent) (need : ℕ → ℕ) (channel : ℕ → ℕ → Pair → ℕ) → IsBent o allowed table es need channel → (z k : ℕ) →
+pub port_blocks : PortFacts → (o : Options) (allowed : ℕ → Bool) (table : Targets) (es : List MidiEvent) (need : ℕ → ℕ)
+    (channel : ℕ → ℕ → Pair → ℕ) → IsBent o allowed table es need channel → (z k : ℕ) →
     (let runs = runs_on o table es channel z in
     (both_at o table runs (of_port z es) k).out ≡ play quiet (port_output o table runs quiet quiet (up_to_position k (of_port z es))))
 port_blocks f o allowed table es need channel b z k =
     let runs : PortRuns = runs_on o table es channel z in
-    out_is o table runs (of_port z es) k ∙ ap (play quiet) (blocks_are o table runs (of_port z es) k (on_port f o allowed table es need channel b z).timely.rising)
+    out_is o table runs (of_port z es) k ∙ ap (play quiet)
+        (blocks_are o table runs (of_port z es) k (on_port f o allowed table es need channel b z).timely.rising)
 
 -- the output of the file, by its ports
 abbrev written : Options → Targets → (ℕ → ℕ → Pair → ℕ) → List MidiEvent → ℕ → List MidiEvent
 written o table channel es z = port_output o table (runs_on o table es channel z) quiet quiet (of_port z es)
 
-pub same_file : MusicLaws → PortFacts → BentPorts → (o : Options) (allowed : ℕ → Bool) (table : Targets) (es : List MidiEvent) (need : ℕ → ℕ) (channel : ℕ → ℕ → Pair → ℕ) → IsBent o allowed table es need channel →
+pub same_file : MusicLaws → PortFacts → BentPorts → (o : Options) (allowed : ℕ → Bool) (table : Targets) (es : List MidiEvent) (need : ℕ → ℕ)
+    (channel : ℕ → ℕ → Pair → ℕ) → IsBent o allowed table es need channel →
     (scaling : Scaling) → IsTuned scaling o table → PlayTheSame scaling o table (plain_device o) es (bend_output o table channel es)
 same_file m f ports o allowed table es need channel b scaling tuned =
     let is : (z : ℕ) → events_on z (bend_output o table channel es) ≡ written o table channel es z = λ z. ports o table channel es z in
@@ -82,26 +89,33 @@ same_file m f ports o allowed table es need channel b scaling tuned =
       drums = λ z. (
           let p : OnPort o allowed table es need channel z = on_port f o allowed table es need channel b z in
           subst (KeepsDrums o (events_on z es)) (sym (is z))
-          (keeps_all_drums IsWellFormed m.laws o table (uses o allowed (need z)) p.used (runs_on o table es channel z) (of_port z es) (length es) p.planned p.timely));
+          (keeps_all_drums IsWellFormed m.laws o table (uses o allowed (need z)) p.used (runs_on o table es channel z) (of_port z es)
+              (length es) p.planned p.timely));
     }
 
-pub file_playable : Laws IsWellFormed → PortFacts → BentPorts → (o : Options) (allowed : ℕ → Bool) (table : Targets) (es : List MidiEvent) (need : ℕ → ℕ) (channel : ℕ → ℕ → Pair → ℕ) → IsBent o allowed table es need channel →
+pub file_playable : Laws IsWellFormed → PortFacts → BentPorts → (o : Options) (allowed : ℕ → Bool) (table : Targets) (es : List MidiEvent)
+    (need : ℕ → ℕ) (channel : ℕ → ℕ → Pair → ℕ) → IsBent o allowed table es need channel →
     (tracks : ℕ) → IsPlayable tracks es → IsPlayable tracks (bend_output o table channel es)
 file_playable laws f ports o allowed table es need channel b tracks playable =
     let valid : (z : ℕ) → AllByRecursion IsValidEvent (events_on z (bend_output o table channel es)) = λ z. (
     let p : OnPort o allowed table es need channel z = on_port f o allowed table es need channel b z in
     subst (AllByRecursion IsValidEvent) (sym (ports o table channel es z))
-    (output_valid IsWellFormed laws o table (uses o allowed (need z)) p.used (runs_on o table es channel z) (of_port z es) (length es) p.planned p.timely)) in
-    output_playable tracks o table (runs_on o table es channel) es (all_of_ports IsValidEvent all_zero 0 (bend_output o table channel es) valid) playable
+    (output_valid IsWellFormed laws o table (uses o allowed (need z)) p.used (runs_on o table es channel z) (of_port z es)
+        (length es) p.planned p.timely)) in
+    output_playable tracks o table (runs_on o table es channel) es (all_of_ports IsValidEvent all_zero 0
+        (bend_output o table channel es) valid) playable
 
-pub file_used : Laws IsWellFormed → PortFacts → BentPorts → (o : Options) (allowed : ℕ → Bool) (table : Targets) (es : List MidiEvent) (need : ℕ → ℕ) (channel : ℕ → ℕ → Pair → ℕ) → IsBent o allowed table es need channel →
+pub file_used : Laws IsWellFormed → PortFacts → BentPorts → (o : Options) (allowed : ℕ → Bool) (table : Targets) (es : List MidiEvent)
+    (need : ℕ → ℕ) (channel : ℕ → ℕ → Pair → ℕ) → IsBent o allowed table es need channel →
     (z : ℕ) → AllByRecursion (IsOnUsed o (uses o allowed (need z))) (events_on z (bend_output o table channel es))
 file_used laws f ports o allowed table es need channel b z =
     let p : OnPort o allowed table es need channel z = on_port f o allowed table es need channel b z in
     subst (AllByRecursion (IsOnUsed o (uses o allowed (need z)))) (sym (ports o table channel es z))
-    (output_used IsWellFormed laws o table (uses o allowed (need z)) p.used (runs_on o table es channel z) (of_port z es) (length es) p.planned p.timely)
+    (output_used IsWellFormed laws o table (uses o allowed (need z)) p.used (runs_on o table es channel z) (of_port z es)
+        (length es) p.planned p.timely)
 
-pub port_left : Laws IsWellFormed → PortFacts → (o : Options) (allowed : ℕ → Bool) (table : Targets) (es : List MidiEvent) (need : ℕ → ℕ) (channel : ℕ → ℕ → Pair → ℕ) → IsBent o allowed table es need channel →
+pub port_left : Laws IsWellFormed → PortFacts → (o : Options) (allowed : ℕ → Bool) (table : Targets) (es : List MidiEvent) (need : ℕ → ℕ)
+    (channel : ℕ → ℕ → Pair → ℕ) → IsBent o allowed table es need channel →
     (z instant : ℕ) (row : ℕ → ℕ) → IsBendPlan o allowed table es z (need z) instant row (channel z) → (k i : ℕ) → k ≤ length es → i < need z →
     (let runs = runs_on o table es channel z in let c = get_or (used_row o allowed (need z)) i 0 in
     NoneHeld runs k c → IsSameAside (channel_at (both_at o table runs (of_port z es) k).out c) (from_state o table (port_at es z) row i k).own)
@@ -118,4 +132,5 @@ port_left laws f o allowed table es need channel b z instant row plan k i low sm
     } in
     subst (IsSameAside (channel_at (both_at o table runs (of_port z es) k).out c))
     (left_as IsWellFormed laws o table (uses o allowed n) p.used runs (port_at es z) (length es) p.planned p.timely.rising row i c lane k low free)
-    ((follows_at IsWellFormed laws o table (uses o allowed n) p.used runs (of_port z es) (length es) p.planned k low).states c (lane_used o allowed n plan.within i small))
+    ((follows_at IsWellFormed laws o table (uses o allowed n) p.used runs (of_port z es)
+        (length es) p.planned k low).states c (lane_used o allowed n plan.within i small))

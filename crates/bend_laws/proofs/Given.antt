@@ -33,7 +33,8 @@ none_holds : (xs : List (Kind × Bool)) → first_that xs ≡ None → AllByRecu
 none_holds [] e = tt
 none_holds (x ∷ xs) e = pick x.1 refl e (none_holds xs)
   where
-    pick : (b : Bool) → x.1 ≡ b → cond b (Some x.0) (first_that xs) ≡ None → (first_that xs ≡ None → AllByRecursion (λ (y : Kind × Bool). y.1 ≡ false) xs) → (x.1 ≡ false) × AllByRecursion (λ (y : Kind × Bool). y.1 ≡ false) xs
+    pick : (b : Bool) → x.1 ≡ b → cond b (Some x.0) (first_that xs) ≡ None → (first_that xs ≡ None →
+        AllByRecursion (λ (y : Kind × Bool). y.1 ≡ false) xs) → (x.1 ≡ false) × AllByRecursion (λ (y : Kind × Bool). y.1 ≡ false) xs
     pick true h k rest = absurd cc
     pick false h k rest = (h, rest k)
 
@@ -46,7 +47,8 @@ pub record IsFine (port : ℕ) (o : Options) (table : Targets) (m after : Music)
   pub zone : is_zone_entry o m msg ≡ false
   pub restrike : is_restrike o table m t msg ≡ false
 
-pub fine : (port : ℕ) (o : Options) (table : Targets) (m after : Music) (pairs : List Pair) (t : ℕ) (msg : Msg) → kind_in port o table t m after false pairs (Says msg) ≡ None →
+pub fine : (port : ℕ) (o : Options) (table : Targets) (m after : Music) (pairs : List Pair) (t : ℕ) (msg : Msg) →
+    kind_in port o table t m after false pairs (Says msg) ≡ None →
     IsFine port o table m after pairs t msg
 fine port o table m after pairs t msg e =
     let h = none_holds (message_tests port o table t m after false pairs msg) e in
@@ -62,12 +64,18 @@ valid_channel (Pressure c v) h = (let l : c ≤ 15 = h.0 in omega (arith, l))
 valid_channel (Bend c v) h = (let l : c ≤ 15 = h.0 in omega (arith, l))
 
 -- a part's controllers
-pub wide_part : (Good : State → Type 0) → BringReaches Good → (o : Options) (table : Targets) (m : Music) → ((p : Pair) → Good (wanted o table m p)) → (c : ℕ) → length (channel_at m c).controls ≡ 120
-wide_part Good law o table m good c = let p : Pair = record { part = record { port = 0; channel = c }; steps = pos 0 } in law.wide (wanted o table m p) (good p)
+pub wide_part : (Good : State → Type 0) → BringReaches Good → (o : Options) (table : Targets) (m : Music) →
+    ((p : Pair) → Good (wanted o table m p)) → (c : ℕ) → length (channel_at m c).controls ≡ 120
+wide_part Good law o table m good c = let p : Pair = record { part = record { port = 0; channel = c }; steps =
+    pos 0 } in law.wide (wanted o table m p) (good p)
 
 -- the output's keys are keys
-key_fits : (port : ℕ) (o : Options) (table : Targets) (place : Pair → ℕ) (a b : Note) → IsMatched port o table place a b → is_part o b.channel ≡ true → b.key < 128
-key_fits port o table place a b h p = let y : IsPlayedBy port o table place a b = h.played (sym h.retuned ∙ p) in subst (λ k. k < 128) (sym y.key) (aim_fits o.range (table a.key a.onset) y.target y.aim)
+key_fits : (port : ℕ) (o : Options) (table : Targets) (place : Pair → ℕ) (a b : Note) → IsMatched port o table place a b →
+    is_part o b.channel ≡ true → b.key < 128
+key_fits port o table place a b h p = let y : IsPlayedBy port o table place a b = h.played (sym h.retuned ∙ p) in subst (λ k. k < 128) (sym y.key)
+    (aim_fits o.range (table a.key a.onset) y.target y.aim)
 
-pub keys_fit : (port : ℕ) (o : Options) (table : Targets) (place : Pair → ℕ) (ns xs : List Note) → Pairwise (IsMatched port o table place) ns xs → KeysFit o xs
-keys_fit port o table place ns xs h = pair_second (IsMatched port o table place) (λ b. is_part o b.channel ≡ true → b.key < 128) (key_fits port o table place) ns xs h
+pub keys_fit : (port : ℕ) (o : Options) (table : Targets) (place : Pair → ℕ) (ns xs : List Note) → Pairwise (IsMatched port o table place) ns xs →
+    KeysFit o xs
+keys_fit port o table place ns xs h = pair_second (IsMatched port o table place) (λ b. is_part o b.channel ≡ true → b.key < 128)
+    (key_fits port o table place) ns xs h

@@ -39,14 +39,17 @@ pub record MusicLaws : Type 0 where
   pub stay : ReceiversStay
   pub pitches : PitchLaws
 
-pub same_music : MusicLaws → (scaling : Scaling) (o : Options) (table : Targets) (used : ℕ → Bool) → AreUsed o used → (plan : PortRuns) (ns : List Numbered) (last : ℕ) →
+pub same_music : MusicLaws → (scaling : Scaling) (o : Options) (table : Targets) (used : ℕ → Bool) → AreUsed o used → (plan : PortRuns)
+    (ns : List Numbered) (last : ℕ) →
     IsPlanned IsWellFormed o table used plan ns last → IsHeard scaling o table ns last →
     PlaysTheSameMusic scaling o table (plain_device o) (unnumbered ns) (port_output o table plan quiet quiet ns)
 same_music m scaling o table used row plan ns last given heard =
     let timely : AreTimely ns last = heard.timely in
-    let scales : Scales scaling o table = record { laws = m.pitches; route = row.route; range = heard.range; bounds = heard.bounds; few_terms = heard.few_terms } in
+    let scales : Scales scaling o table = record { laws = m.pitches; route = row.route; range = heard.range; bounds = heard.bounds; few_terms =
+        heard.few_terms } in
     plays_same_music IsWellFormed m.laws scaling o table used row plan ns last given timely (record {
       notes = same_notes IsWellFormed m.laws o table used row plan ns last given timely;
-      sound = same_sound m.laws m.given m.others m.stay scaling o table scales used row plan ns last given timely (is_untuned m.laws m.tuning m.stay o table used row plan ns last given timely);
+      sound = same_sound m.laws m.given m.others m.stay scaling o table scales used row plan ns last given timely
+          (is_untuned m.laws m.tuning m.stay o table used row plan ns last given timely);
       beginnings = begins_same m.laws m.given m.others m.tuning m.stay scaling o table scales used row plan ns last given timely;
     })

@@ -18,16 +18,19 @@ use Rattle.bend_laws.proofs.Lists.{all_always, all_append, all_mapped}
 -- ---- places
 
 -- a block stands at its event's tick, in its track
-pub block_places : (P : ℕ → ℕ → Type 0) (e : MidiEvent) (ws : List MidiWhat) → P e.tick e.track → AllByRecursion (λ x. P x.tick x.track) (placed_at e ws)
+pub block_places : (P : ℕ → ℕ → Type 0) (e : MidiEvent) (ws : List MidiWhat) → P e.tick e.track → AllByRecursion (λ x. P x.tick x.track)
+    (placed_at e ws)
 block_places P e [] h = tt
 block_places P e (w ∷ ws) h = (h, block_places P e ws h)
 
-output_places : (P : ℕ → ℕ → Type 0) (o : Options) (table : Targets) (runs : ℕ → PortRuns) (ports : ℕ → ℕ) (k : ℕ) (s : ℕ → Played) (es : List MidiEvent) → AllByRecursion (λ e. P e.tick e.track) es →
+output_places : (P : ℕ → ℕ → Type 0) (o : Options) (table : Targets) (runs : ℕ → PortRuns) (ports : ℕ → ℕ) (k : ℕ) (s : ℕ → Played)
+    (es : List MidiEvent) → AllByRecursion (λ e. P e.tick e.track) es →
     AllByRecursion (λ e. P e.tick e.track) (file_from o table runs ports k s es)
 output_places P o table runs ports k s [] h = tt
 output_places P o table runs ports k s (e ∷ es) h =
     let z : ℕ = port_of ports e in
-    all_append (λ x. P x.tick x.track) (block_of o table (runs z) k (s z) e) (file_from o table runs (ports_after ports e) (suc k) (state_after o table runs ports k s e) es)
+    all_append (λ x. P x.tick x.track) (block_of o table (runs z) k (s z) e) (file_from o table runs (ports_after ports e) (suc k)
+        (state_after o table runs ports k s e) es)
     (block_places P e (causes_of o table (runs z) k (s z) e) h.0)
     (output_places P o table runs (ports_after ports e) (suc k) (state_after o table runs ports k s e) es h.1)
 
@@ -40,17 +43,22 @@ abbrev at : MidiEvent → ℕ → ℕ → MidiEvent
 at e t track = record e { tick = t; track = track }
 
 -- a block, before events that may stand behind its own
-order_block : (e : MidiEvent) (ws : List MidiWhat) (ys : List MidiEvent) → AllByRecursion (λ y. precedes e y ≡ true) ys → InOrder ys → InOrder (placed_at e ws ++ ys)
+order_block : (e : MidiEvent) (ws : List MidiWhat) (ys : List MidiEvent) → AllByRecursion (λ y. precedes e y ≡ true) ys → InOrder ys →
+    InOrder (placed_at e ws ++ ys)
 order_block e [] ys p h = h
 order_block e (w ∷ ws) ys p h =
-    (all_append (λ y. precedes e y ≡ true) (placed_at e ws) ys (block_places (λ t track. precedes e (at e t track) ≡ true) e ws (itself e)) p, order_block e ws ys p h)
+    (all_append (λ y. precedes e y ≡ true) (placed_at e ws) ys (block_places (λ t track. precedes e (at e t track) ≡ true) e ws (itself e)) p,
+        order_block e ws ys p h)
 
-output_order : (o : Options) (table : Targets) (runs : ℕ → PortRuns) (ports : ℕ → ℕ) (k : ℕ) (s : ℕ → Played) (es : List MidiEvent) → InOrder es → InOrder (file_from o table runs ports k s es)
+output_order : (o : Options) (table : Targets) (runs : ℕ → PortRuns) (ports : ℕ → ℕ) (k : ℕ) (s : ℕ → Played) (es : List MidiEvent) → InOrder es →
+    InOrder (file_from o table runs ports k s es)
 output_order o table runs ports k s [] h = tt
 output_order o table runs ports k s (e ∷ es) h =
     let z : ℕ = port_of ports e in
-    order_block e (causes_of o table (runs z) k (s z) e) (file_from o table runs (ports_after ports e) (suc k) (state_after o table runs ports k s e) es)
-    (output_places (λ t track. precedes e (at e t track) ≡ true) o table runs (ports_after ports e) (suc k) (state_after o table runs ports k s e) es h.0)
+    order_block e (causes_of o table (runs z) k (s z) e) (file_from o table runs (ports_after ports e) (suc k)
+        (state_after o table runs ports k s e) es)
+    (output_places (λ t track. precedes e (at e t track) ≡ true) o table runs (ports_after ports e) (suc k)
+        (state_after o table runs ports k s e) es h.0)
     (output_order o table runs (ports_after ports e) (suc k) (state_after o table runs ports k s e) es h.1)
 
 -- ---- ends of tracks
@@ -74,7 +82,8 @@ is_elsewhere : (t : ℕ) (es : List MidiEvent) → of_track t es ≡ [] → Else
 is_elsewhere t [] h = tt
 is_elsewhere t (e ∷ es) h = pick (eqb e.track t) refl h (is_elsewhere t es)
   where
-    pick : (b : Bool) → eqb e.track t ≡ b → cond b (e ∷ of_track t es) (of_track t es) ≡ [] → (of_track t es ≡ [] → Elsewhere t es) → (eqb e.track t ≡ false) × Elsewhere t es
+    pick : (b : Bool) → eqb e.track t ≡ b → cond b (e ∷ of_track t es) (of_track t es) ≡ [] → (of_track t es ≡ [] → Elsewhere t es) →
+        (eqb e.track t ≡ false) × Elsewhere t es
     pick true is g f = absurd cc
     pick false is g f = (is, f g)
 
@@ -83,15 +92,18 @@ none_there t [] h = refl
 none_there t (e ∷ es) h = ap (λ b. cond b (e ∷ of_track t es) (of_track t es)) h.0 ∙ none_there t es h.1
 
 -- a block without an end, in its track, before what ends it
-ends_block : (t : ℕ) (e : MidiEvent) (ws : List MidiWhat) → AllByRecursion (λ w. is_end w ≡ false) ws → (ys : List MidiEvent) → EndsOnce (of_track t ys) → EndsOnce (of_track t (placed_at e ws ++ ys))
+ends_block : (t : ℕ) (e : MidiEvent) (ws : List MidiWhat) → AllByRecursion (λ w. is_end w ≡ false) ws → (ys : List MidiEvent) →
+    EndsOnce (of_track t ys) → EndsOnce (of_track t (placed_at e ws ++ ys))
 ends_block t e [] h ys g = g
 ends_block t e (w ∷ ws) h ys g =
     let x : MidiEvent = record e { what = w } in
     let rest : EndsOnce (of_track t (placed_at e ws ++ ys)) = ends_block t e ws h.1 ys g in
-    cond_both (eqb e.track t) (x ∷ of_track t (placed_at e ws ++ ys)) (of_track t (placed_at e ws ++ ys)) EndsOnce (λ k. ends_cons x (of_track t (placed_at e ws ++ ys)) h.0 rest) (λ k. rest)
+    cond_both (eqb e.track t) (x ∷ of_track t (placed_at e ws ++ ys))
+        (of_track t (placed_at e ws ++ ys)) EndsOnce (λ k. ends_cons x (of_track t (placed_at e ws ++ ys)) h.0 rest) (λ k. rest)
 
 -- an event that is passed on
-ends_passed : (b : Bool) (e : MidiEvent) (source out : List MidiEvent) → (source ≡ [] → out ≡ []) → (EndsOnce source → EndsOnce out) → EndsOnce (cond b (e ∷ source) source) → EndsOnce (cond b (e ∷ out) out)
+ends_passed : (b : Bool) (e : MidiEvent) (source out : List MidiEvent) → (source ≡ [] → out ≡ []) → (EndsOnce source → EndsOnce out) →
+    EndsOnce (cond b (e ∷ source) source) → EndsOnce (cond b (e ∷ out) out)
 ends_passed false e source out none later h = later h
 ends_passed true e source out none later h = elim (cases_Bool (is_end e.what)) [
   | inl is ↦ subst (λ es. EndsOnce (e ∷ es)) (sym (none (nothing_after e source is h))) is
@@ -103,8 +115,10 @@ ends_later : (b : Bool) (e : MidiEvent) (source : List MidiEvent) → is_end e.w
 ends_later false e source goes h = h
 ends_later true e source goes h = goes_on e source goes h
 
-event_ends : (t : ℕ) (port : ℕ) (o : Options) (table : Targets) (k : Moment) (before out : Music) (tick track : ℕ) (w : MidiWhat) (source rest : List MidiEvent) → (of_track t source ≡ [] → of_track t rest ≡ []) → (EndsOnce (of_track t source) → EndsOnce (of_track t rest)) →
-    (let e : MidiEvent = record { tick = tick; track = track; what = w } in EndsOnce (of_track t (e ∷ source)) → EndsOnce (of_track t (port_block port o table k before out e ++ rest)))
+event_ends : (t : ℕ) (port : ℕ) (o : Options) (table : Targets) (k : Moment) (before out : Music) (tick track : ℕ) (w : MidiWhat)
+    (source rest : List MidiEvent) → (of_track t source ≡ [] → of_track t rest ≡ []) → (EndsOnce (of_track t source) → EndsOnce (of_track t rest)) →
+    (let e : MidiEvent = record { tick = tick; track = track; what = w } in EndsOnce (of_track t (e ∷ source)) →
+        EndsOnce (of_track t (port_block port o table k before out e ++ rest)))
 event_ends t port o table k before out tick track (Says msg) source rest none later h =
     let e : MidiEvent = record { tick = tick; track = track; what = Says msg } in
     let ms : List Msg = part_causes port o table k before (step before e) out tick msg in
@@ -112,19 +126,24 @@ event_ends t port o table k before out tick track (Says msg) source rest none la
     (cond_both (is_part o (channel_of msg)) (map Says ms) (Says msg ∷ []) (AllByRecursion (λ w. is_end w ≡ false))
     (λ p. all_mapped (λ w. is_end w ≡ false) Says (λ m. Unit {0}) (λ m u. refl) ms (all_always (λ m. Unit {0}) (λ m. tt) ms)) (λ p. (refl, tt)))
     rest (later (ends_later (eqb track t) e (of_track t source) refl h))
-event_ends t port o table k before out tick track (SysexOf lead bytes) source rest none later h = ends_passed (eqb track t) (let e : MidiEvent = record { tick = tick; track = track; what = SysexOf lead bytes } in e) (of_track t source) (of_track t rest) none later h
-event_ends t port o table k before out tick track (MetaOf kind bytes) source rest none later h = ends_passed (eqb track t) (let e : MidiEvent = record { tick = tick; track = track; what = MetaOf kind bytes } in e) (of_track t source) (of_track t rest) none later h
+event_ends t port o table k before out tick track (SysexOf lead bytes) source rest none later h = ends_passed (eqb track t)
+    (let e : MidiEvent = record { tick = tick; track = track; what = SysexOf lead bytes } in e) (of_track t source) (of_track t rest) none later h
+event_ends t port o table k before out tick track (MetaOf kind bytes) source rest none later h = ends_passed (eqb track t)
+    (let e : MidiEvent = record { tick = tick; track = track; what = MetaOf kind bytes } in e) (of_track t source) (of_track t rest) none later h
 
-output_ends : (t : ℕ) (o : Options) (table : Targets) (runs : ℕ → PortRuns) (ports : ℕ → ℕ) (k : ℕ) (s : ℕ → Played) (es : List MidiEvent) → EndsOnce (of_track t es) → EndsOnce (of_track t (file_from o table runs ports k s es))
+output_ends : (t : ℕ) (o : Options) (table : Targets) (runs : ℕ → PortRuns) (ports : ℕ → ℕ) (k : ℕ) (s : ℕ → Played) (es : List MidiEvent) →
+    EndsOnce (of_track t es) → EndsOnce (of_track t (file_from o table runs ports k s es))
 output_ends t o table runs ports k s [] h = h
 output_ends t o table runs ports k s (e ∷ es) h =
     let z : ℕ = port_of ports e in
     let rest : List MidiEvent = file_from o table runs (ports_after ports e) (suc k) (state_after o table runs ports k s e) es in
     event_ends t (runs z).number o table (moment_at (runs z) (suc k)) (s z).source (s z).out e.tick e.track e.what es rest
-    (λ none. none_there t rest (output_places (λ tick track. eqb track t ≡ false) o table runs (ports_after ports e) (suc k) (state_after o table runs ports k s e) es (is_elsewhere t es none)))
+    (λ none. none_there t rest (output_places (λ tick track. eqb track t ≡ false) o table runs (ports_after ports e) (suc k)
+        (state_after o table runs ports k s e) es (is_elsewhere t es none)))
     (output_ends t o table runs (ports_after ports e) (suc k) (state_after o table runs ports k s e) es) h
 
-pub output_playable : (tracks : ℕ) (o : Options) (table : Targets) (runs : ℕ → PortRuns) (es : List MidiEvent) → AllByRecursion IsValidEvent (file_output o table runs es) → IsPlayable tracks es → IsPlayable tracks (file_output o table runs es)
+pub output_playable : (tracks : ℕ) (o : Options) (table : Targets) (runs : ℕ → PortRuns) (es : List MidiEvent) →
+    AllByRecursion IsValidEvent (file_output o table runs es) → IsPlayable tracks es → IsPlayable tracks (file_output o table runs es)
 output_playable tracks o table runs es valid h = record {
   valid = valid;
   in_order = output_order o table runs all_zero 0 (λ z. unplayed) es h.in_order;

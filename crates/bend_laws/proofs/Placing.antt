@@ -24,7 +24,8 @@ event_is m [] r k = refl
 event_is m (n ∷ ns) r k =
     let rest : List Numbered = filter (λ (x : Numbered). nat_eq x.position k) ns in
     elim (cases_eq n.position k) [
-      | inl e ↦ ap (λ b. unnumbered (cond b (n ∷ rest) rest)) (eq-eqb n.position k e) ∙ ap (λ xs. n.event ∷ unnumbered xs) (none_on n.position ns r.1 k (omega (arith, e)))
+      | inl e ↦ ap (λ b. unnumbered (cond b (n ∷ rest) rest)) (eq-eqb n.position k e) ∙ ap (λ xs. n.event ∷ unnumbered xs)
+          (none_on n.position ns r.1 k (omega (arith, e)))
           ∙ sym (ap (λ b. events_if (cond b (Some n.event) (port_event ns k))) (eq-eqb n.position k e))
       | inr e ↦ ap (λ b. unnumbered (cond b (n ∷ rest) rest)) (ne_eqb n.position k e) ∙ event_is n.position ns r.1 k
           ∙ sym (ap (λ b. events_if (cond b (Some n.event) (port_event ns k))) (ne_eqb n.position k e))
@@ -37,7 +38,8 @@ pub record StandsAt (P : Numbered → Type 0) (k : ℕ) (e : MidiEvent) : Type 0
   pub position : one.position ≡ k
   pub event : one.event ≡ e
 
-pub at_place : (P : Numbered → Type 0) (ns : List Numbered) → AllByRecursion P ns → (k : ℕ) (e : MidiEvent) → port_event ns k ≡ Some e → StandsAt P k e
+pub at_place : (P : Numbered → Type 0) (ns : List Numbered) → AllByRecursion P ns → (k : ℕ) (e : MidiEvent) → port_event ns k ≡ Some e →
+    StandsAt P k e
 at_place P [] h k e is = absurd cc
 at_place P (n ∷ ns) h k e is = elim (cases_eq n.position k) [
   | inl p ↦ (let g : Some n.event ≡ Some e = ap (λ b. cond b (Some n.event) (port_event ns k)) (sym (eq-eqb n.position k p)) ∙ is in
@@ -66,19 +68,24 @@ abbrev at_next : ℕ → MidiEvent → Numbered
 at_next k e = record { position = suc k; event = e }
 
 -- what holds of each event of the file
-pub all_of_port : (P : MidiEvent → Type 0) (z : ℕ) (ports : ℕ → ℕ) (k : ℕ) (es : List MidiEvent) → AllByRecursion P es → AllByRecursion P (unnumbered (of_port_from z ports k es))
+pub all_of_port : (P : MidiEvent → Type 0) (z : ℕ) (ports : ℕ → ℕ) (k : ℕ) (es : List MidiEvent) → AllByRecursion P es →
+    AllByRecursion P (unnumbered (of_port_from z ports k es))
 all_of_port P z ports k [] h = tt
 all_of_port P z ports k (e ∷ es) h =
-    let rest : AllByRecursion P (unnumbered (of_port_from z (ports_after ports e) (suc k) es)) = all_of_port P z (ports_after ports e) (suc k) es h.1 in
-    either_way (nat_eq (port_of ports e) z) (at_next k e) (of_port_from z (ports_after ports e) (suc k) es) (λ xs. AllByRecursion P (unnumbered xs)) (h.0, rest) rest
+    let rest : AllByRecursion P (unnumbered (of_port_from z (ports_after ports e) (suc k) es)) = all_of_port P z (ports_after ports e)
+        (suc k) es h.1 in
+    either_way (nat_eq (port_of ports e) z) (at_next k e) (of_port_from z (ports_after ports e) (suc k) es)
+        (λ xs. AllByRecursion P (unnumbered xs)) (h.0, rest) rest
 
 -- what holds of each event of each port holds of all events of the file
-pub all_of_ports : (P : MidiEvent → Type 0) (ports : ℕ → ℕ) (k : ℕ) (es : List MidiEvent) → ((z : ℕ) → AllByRecursion P (unnumbered (of_port_from z ports k es))) → AllByRecursion P es
+pub all_of_ports : (P : MidiEvent → Type 0) (ports : ℕ → ℕ) (k : ℕ) (es : List MidiEvent) →
+    ((z : ℕ) → AllByRecursion P (unnumbered (of_port_from z ports k es))) → AllByRecursion P es
 all_of_ports P ports k [] h = tt
 all_of_ports P ports k (e ∷ es) h =
     let here : ℕ = port_of ports e in
     (
-      (subst (λ b. AllByRecursion P (unnumbered (with_event b (at_next k e) (of_port_from here (ports_after ports e) (suc k) es)))) (eq-eqb here here refl) (h here)).0,
+      (subst (λ b. AllByRecursion P (unnumbered (with_event b (at_next k e) (of_port_from here (ports_after ports e) (suc k) es))))
+          (eq-eqb here here refl) (h here)).0,
       all_of_ports P (ports_after ports e) (suc k) es (λ z. later (nat_eq here z) (of_port_from z (ports_after ports e) (suc k) es) (h z)),
     )
   where
@@ -86,12 +93,15 @@ all_of_ports P ports k (e ∷ es) h =
     later true ns g = g.1
     later false ns g = g
 
-positions_within : (m z : ℕ) (ports : ℕ → ℕ) (k : ℕ) (es : List MidiEvent) → k + length es ≤ m → AllByRecursion (λ (n : Numbered). n.position ≤ m) (of_port_from z ports k es)
+positions_within : (m z : ℕ) (ports : ℕ → ℕ) (k : ℕ) (es : List MidiEvent) → k + length es ≤ m → AllByRecursion (λ (n : Numbered). n.position ≤ m)
+    (of_port_from z ports k es)
 positions_within m z ports k [] l = tt
 positions_within m z ports k (e ∷ es) l =
     let g : k + suc (length es) ≤ m = l in
-    let rest : AllByRecursion (λ (n : Numbered). n.position ≤ m) (of_port_from z (ports_after ports e) (suc k) es) = positions_within m z (ports_after ports e) (suc k) es (omega (arith, g)) in
-    either_way (nat_eq (port_of ports e) z) (at_next k e) (of_port_from z (ports_after ports e) (suc k) es) (AllByRecursion (λ (n : Numbered). n.position ≤ m)) (omega (arith, g), rest) rest
+    let rest : AllByRecursion (λ (n : Numbered). n.position ≤ m) (of_port_from z (ports_after ports e) (suc k) es) =
+        positions_within m z (ports_after ports e) (suc k) es (omega (arith, g)) in
+    either_way (nat_eq (port_of ports e) z) (at_next k e) (of_port_from z (ports_after ports e) (suc k) es)
+        (AllByRecursion (λ (n : Numbered). n.position ≤ m)) (omega (arith, g), rest) rest
 
 pub port_within : (z : ℕ) (es : List MidiEvent) → AllByRecursion (λ (n : Numbered). n.position ≤ length es) (of_port z es)
 port_within z es = positions_within (length es) z all_zero 0 es (omega arith)
@@ -105,4 +115,5 @@ port_order t z ports k [] h = tt
 port_order t z ports k (e ∷ es) h =
     let later : List Numbered = of_port_from z (ports_after ports e) (suc k) es in
     let rest : AreInOrder e.tick (unnumbered later) = port_order e.tick z (ports_after ports e) (suc k) es h.1 in
-    either_way (nat_eq (port_of ports e) z) (at_next k e) later (λ xs. AreInOrder t (unnumbered xs)) (h.0, rest) (order_lower t e.tick (unnumbered later) h.0 rest)
+    either_way (nat_eq (port_of ports e) z) (at_next k e) later (λ xs. AreInOrder t (unnumbered xs)) (h.0, rest)
+        (order_lower t e.tick (unnumbered later) h.0 rest)

@@ -42,18 +42,21 @@ both_none [] ys h g = g
 both_none (x ∷ xs) ys h g = (h.0, both_none xs ys h.1 g)
 
 bring_none : (c : ℕ) (now wanted : State) → NoNotes (bring c now wanted)
-bring_none c now wanted = bring_holds c NoNote (record { control = λ n v. tt; program = λ p. tt; pressure = λ v. tt; bend = λ v. tt; key = λ k v. tt }) now wanted
+bring_none c now wanted = bring_holds c NoNote (record { control = λ n v. tt; program = λ p. tt; pressure = λ v. tt; bend = λ v. tt; key =
+    λ k v. tt }) now wanted
 
 all_none : (o : Options) (table : Targets) (after out : Music) (hs : List Held) → NoNotes (bring_all o table after out hs)
 all_none o table after out [] = tt
 all_none o table after out (h ∷ hs) =
-    both_none (bring h.channel (state_at out h.channel) (wanted o table after h.pair)) (bring_all o table after out hs) (bring_none h.channel (state_at out h.channel) (wanted o table after h.pair)) (all_none o table after out hs)
+    both_none (bring h.channel (state_at out h.channel) (wanted o table after h.pair)) (bring_all o table after out hs)
+        (bring_none h.channel (state_at out h.channel) (wanted o table after h.pair)) (all_none o table after out hs)
 
 send_none : (n v : ℕ) (hs : List Held) → NoNotes (send_all n v hs)
 send_none n v [] = tt
 send_none n v (h ∷ hs) = (tt, send_none n v hs)
 
-controller_none : (o : Options) (table : Targets) (after out : Music) (hs : List Held) (n v : ℕ) (r : Role) → NoNotes (controller_causes o table after out hs n v r)
+controller_none : (o : Options) (table : Targets) (after out : Music) (hs : List Held) (n v : ℕ) (r : Role) →
+    NoNotes (controller_causes o table after out hs n v r)
 controller_none o table after out hs n v AllSoundOff = send_none n v hs
 controller_none o table after out hs n v AllNotesOff = send_none n v hs
 controller_none o table after out hs n v Ignored = tt
@@ -66,7 +69,8 @@ controller_none o table after out hs n v RpnLow = all_none o table after out hs
 controller_none o table after out hs n v RpnHigh = all_none o table after out hs
 controller_none o table after out hs n v ResetControllers = all_none o table after out hs
 
-released_none : (port : ℕ) (o : Options) (table : Targets) (place : Pair → ℕ) (off : ℕ → ℕ → Msg) → ((d i : ℕ) → NoNote (off d i)) → (c : ℕ) (x : Option Note) → NoNotes (note_released port o table place off c x)
+released_none : (port : ℕ) (o : Options) (table : Targets) (place : Pair → ℕ) (off : ℕ → ℕ → Msg) → ((d i : ℕ) → NoNote (off d i)) → (c : ℕ)
+    (x : Option Note) → NoNotes (note_released port o table place off c x)
 released_none port o table place off h c None = tt
 released_none port o table place off h c (Some n) = pick (target_of o table n)
   where
@@ -88,7 +92,8 @@ channels_fade o (n ∷ ns) (x ∷ xs) h =
     ap (λ b. map (λ (y : Note). y.channel) (cond b (x ∷ retuned o xs) (retuned o xs))) (ap (is_part o) h.0.channel)
     ∙ pick (is_part o n.channel) n x (retuned o ns) (retuned o xs) h.0.channel rest
   where
-    pick : (b : Bool) (n x : Note) (ms ys : List Note) → x.channel ≡ n.channel → map (λ (y : Note). y.channel) ys ≡ map (λ (y : Note). y.channel) ms → map (λ (y : Note). y.channel) (cond b (x ∷ ys) ys) ≡ map (λ (y : Note). y.channel) (cond b (n ∷ ms) ms)
+    pick : (b : Bool) (n x : Note) (ms ys : List Note) → x.channel ≡ n.channel → map (λ (y : Note). y.channel) ys
+        ≡ map (λ (y : Note). y.channel) ms → map (λ (y : Note). y.channel) (cond b (x ∷ ys) ys) ≡ map (λ (y : Note). y.channel) (cond b (n ∷ ms) ms)
     pick true n x ms ys c r = ap (λ d. d ∷ map (λ (y : Note). y.channel) ys) c ∙ ap (λ ds. n.channel ∷ ds) r
     pick false n x ms ys c r = r
 
@@ -96,7 +101,9 @@ channels_append : (o : Options) (ns xs : List Note) → note_channels o (ns ++ x
 channels_append o [] xs = refl
 channels_append o (n ∷ ns) xs = pick (is_part o n.channel) (channels_append o ns xs)
   where
-    pick : (b : Bool) → note_channels o (ns ++ xs) ≡ note_channels o ns ++ note_channels o xs → map (λ (y : Note). y.channel) (cond b (n ∷ retuned o (ns ++ xs)) (retuned o (ns ++ xs))) ≡ map (λ (y : Note). y.channel) (cond b (n ∷ retuned o ns) (retuned o ns)) ++ note_channels o xs
+    pick : (b : Bool) → note_channels o (ns ++ xs) ≡ note_channels o ns ++ note_channels o xs → map (λ (y : Note). y.channel)
+        (cond b (n ∷ retuned o (ns ++ xs)) (retuned o (ns ++ xs))) ≡ map (λ (y : Note). y.channel)
+        (cond b (n ∷ retuned o ns) (retuned o ns)) ++ note_channels o xs
     pick true r = ap (λ ds. n.channel ∷ ds) r
     pick false r = r
 
@@ -130,9 +137,11 @@ event_channels o m t (Says msg) = message_channels o m t msg
 event_channels o m t (SysexOf lead bytes) = silent_channels o m t (doing (SysexOf lead bytes)) (no_message (SysexOf lead bytes) tt)
 event_channels o m t (MetaOf kind bytes) = refl
 
-pub step_channels : NotesFade → (o : Options) (m : Music) (e : MidiEvent) → note_channels o (step m e).notes ≡ note_channels o m.notes ++ begun_channels o e.what
+pub step_channels : NotesFade → (o : Options) (m : Music) (e : MidiEvent) → note_channels o (step m e).notes
+    ≡ note_channels o m.notes ++ begun_channels o e.what
 step_channels law o m e =
-    channels_fade o (m.notes ++ begun_by m e.tick (doing e.what)) (step m e).notes (law m e.tick (doing e.what)) ∙ channels_append o m.notes (begun_by m e.tick (doing e.what))
+    channels_fade o (m.notes ++ begun_by m e.tick (doing e.what)) (step m e).notes (law m e.tick (doing e.what))
+        ∙ channels_append o m.notes (begun_by m e.tick (doing e.what))
     ∙ ap (λ ds. note_channels o m.notes ++ ds) (event_channels o m e.tick e.what)
 
 none_channels : (o : Options) (msg : Msg) → NoNote msg → begun_channels o (Says msg) ≡ []
@@ -146,25 +155,31 @@ none_channels o (Pressure c v) h = refl
 none_channels o (Bend c v) h = refl
 
 -- messages that begin no note leave the channels
-pub quiet_channels : NotesFade → (o : Options) (e : MidiEvent) (ms : List Msg) → NoNotes ms → (m : Music) → note_channels o (play m (saying e ms)).notes ≡ note_channels o m.notes
+pub quiet_channels : NotesFade → (o : Options) (e : MidiEvent) (ms : List Msg) → NoNotes ms → (m : Music) →
+    note_channels o (play m (saying e ms)).notes ≡ note_channels o m.notes
 quiet_channels law o e [] h m = refl
 quiet_channels law o e (x ∷ xs) h m =
     let y : MidiEvent = record e { what = Says x } in
-    quiet_channels law o e xs h.1 (step m y) ∙ step_channels law o m y ∙ ap (λ ds. note_channels o m.notes ++ ds) (none_channels o x h.0) ∙ append-nil (note_channels o m.notes)
+    quiet_channels law o e xs h.1 (step m y) ∙ step_channels law o m y ∙ ap (λ ds. note_channels o m.notes ++ ds) (none_channels o x h.0)
+        ∙ append-nil (note_channels o m.notes)
 
 -- ---- a block
 
-pub part_none : (port : ℕ) (o : Options) (table : Targets) (k : Moment) (before after out : Music) (t : ℕ) (msg : Msg) → NoNote msg → NoNotes (part_causes port o table k before after out t msg)
-part_none port o table k before after out t (NoteOn c j zero) h = released_none port o table k.old (λ d i. NoteOn d i zero) (λ d i. tt) c (pressed_note c j before.notes)
+pub part_none : (port : ℕ) (o : Options) (table : Targets) (k : Moment) (before after out : Music) (t : ℕ) (msg : Msg) → NoNote msg →
+    NoNotes (part_causes port o table k before after out t msg)
+part_none port o table k before after out t (NoteOn c j zero) h = released_none port o table k.old (λ d i. NoteOn d i zero)
+    (λ d i. tt) c (pressed_note c j before.notes)
 part_none port o table k before after out t (NoteOn c j (suc v)) h = absurd h
-part_none port o table k before after out t (NoteOff c j v) h = released_none port o table k.old (λ d i. NoteOff d i v) (λ d i. tt) c (pressed_note c j before.notes)
+part_none port o table k before after out t (NoteOff c j v) h = released_none port o table k.old (λ d i. NoteOff d i v)
+    (λ d i. tt) c (pressed_note c j before.notes)
 part_none port o table k before after out t (Control c n v) h = controller_none o table after out (held_by k.old c k.holds) n v (role n)
 part_none port o table k before after out t (KeyPressure c j v) h = all_none o table after out (held_by k.old c k.holds)
 part_none port o table k before after out t (Program c p) h = all_none o table after out (held_by k.old c k.holds)
 part_none port o table k before after out t (Pressure c v) h = all_none o table after out (held_by k.old c k.holds)
 part_none port o table k before after out t (Bend c v) h = all_none o table after out (held_by k.old c k.holds)
 
-none_planned : (port : ℕ) (o : Options) (table : Targets) (place : Pair → ℕ) (t : ℕ) (msg : Msg) → NoNote msg → channel_begun port o table place t (Says msg) ≡ []
+none_planned : (port : ℕ) (o : Options) (table : Targets) (place : Pair → ℕ) (t : ℕ) (msg : Msg) → NoNote msg →
+    channel_begun port o table place t (Says msg) ≡ []
 none_planned port o table place t (NoteOn c k zero) h = refl
 none_planned port o table place t (NoteOn c k (suc v)) h = absurd h
 none_planned port o table place t (NoteOff c k v) h = refl
@@ -179,7 +194,8 @@ setup_none o table k after out p true = tt
 setup_none o table k after out p false = bring_none (k.new p) (state_at out (k.new p)) (wanted o table after p)
 
 -- a note on's block, by its target
-struck_channels : NotesFade → (port : ℕ) (o : Options) (table : Targets) (k : Moment) (after out : Music) (e : MidiEvent) (c v : ℕ) (x : Option BendTarget) → ((t : BendTarget) → x ≡ Some t → is_part o (k.new (pair_with port c t)) ≡ true) →
+struck_channels : NotesFade → (port : ℕ) (o : Options) (table : Targets) (k : Moment) (after out : Music) (e : MidiEvent) (c v : ℕ)
+    (x : Option BendTarget) → ((t : BendTarget) → x ≡ Some t → is_part o (k.new (pair_with port c t)) ≡ true) →
     note_channels o (play out (saying e (strikes port o table k after out c (suc v) x))).notes ≡ note_channels o out.notes ++ on_target port k.new c x
 struck_channels law port o table k after out e c v None h = sym (append-nil (note_channels o out.notes))
 struck_channels law port o table k after out e c v (Some t) h =
@@ -203,34 +219,48 @@ is_note (Bend c v) = inl tt
 
 -- the channel of each pair is a part's
 abbrev pub Placed : ℕ → Options → Targets → Moment → ℕ → MidiWhat → Type 0
-Placed port o table k t (Says (NoteOn c j (suc v))) = is_part o c ≡ true → (x : BendTarget) → bend_target_if o.range (table j t) ≡ Some x → is_part o (k.new (pair_with port c x)) ≡ true
+Placed port o table k t (Says (NoteOn c j (suc v))) = is_part o c ≡ true → (x : BendTarget) → bend_target_if o.range (table j t) ≡ Some x →
+    is_part o (k.new (pair_with port c x)) ≡ true
 Placed port o table k t _ = Unit {0}
 
-message_block : NotesFade → (port : ℕ) (o : Options) (table : Targets) (k : Moment) (before out : Music) (t track : ℕ) (msg : Msg) → Placed port o table k t (Says msg) →
-    note_channels o (play out (port_block port o table k before out (said_at t track msg))).notes ≡ note_channels o out.notes ++ channel_begun port o table k.new t (Says msg)
+message_block : NotesFade → (port : ℕ) (o : Options) (table : Targets) (k : Moment) (before out : Music) (t track : ℕ) (msg : Msg) →
+    Placed port o table k t (Says msg) →
+    note_channels o (play out (port_block port o table k before out (said_at t track msg))).notes
+        ≡ note_channels o out.notes ++ channel_begun port o table k.new t (Says msg)
 message_block law port o table k before out t track msg placed = elim (cases_Bool (is_part o (channel_of msg))) [
-  | inr drum ↦ ap (λ es. note_channels o (play out es).notes) (drum_block port o table k before out t track msg drum) ∙ step_channels law o out (said_at t track msg) ∙ ap (λ ds. note_channels o out.notes ++ ds) (drum_same msg drum)
+  | inr drum ↦ ap (λ es. note_channels o (play out es).notes) (drum_block port o table k before out t track msg drum)
+      ∙ step_channels law o out (said_at t track msg) ∙ ap (λ ds. note_channels o out.notes ++ ds) (drum_same msg drum)
   | inl part ↦ elim (is_note msg) [
-    | inl none ↦ ap (λ es. note_channels o (play out es).notes) (part_block port o table k before out t track msg (part_causes port o table k before (step before (said_at t track msg)) out t msg) part refl)
-        ∙ quiet_channels law o (said_at t track msg) (part_causes port o table k before (step before (said_at t track msg)) out t msg) (part_none port o table k before (step before (said_at t track msg)) out t msg none) out
+    | inl none ↦ ap (λ es. note_channels o (play out es).notes)
+        (part_block port o table k before out t track msg (part_causes port o table k before
+        (step before (said_at t track msg)) out t msg) part refl)
+        ∙ quiet_channels law o (said_at t track msg) (part_causes port o table k before (step before (said_at t track msg)) out t msg)
+            (part_none port o table k before (step before (said_at t track msg)) out t msg none) out
         ∙ sym (append-nil (note_channels o out.notes)) ∙ ap (λ ds. note_channels o out.notes ++ ds) (sym (none_planned port o table k.new t msg none))
     | inr (c, j, v, e) ↦ subst Goal (sym e) (λ p h. struck c j v p h) part placed
   ]
 ]
   where
     Goal : Msg → Type 0
-    Goal m = is_part o (channel_of m) ≡ true → Placed port o table k t (Says m) → note_channels o (play out (port_block port o table k before out (said_at t track m))).notes ≡ note_channels o out.notes ++ channel_begun port o table k.new t (Says m)
+    Goal m = is_part o (channel_of m) ≡ true → Placed port o table k t (Says m) →
+        note_channels o (play out (port_block port o table k before out (said_at t track m))).notes
+        ≡ note_channels o out.notes ++ channel_begun port o table k.new t (Says m)
 
-    struck : (c j v : ℕ) → is_part o c ≡ true → (is_part o c ≡ true → (x : BendTarget) → bend_target_if o.range (table j t) ≡ Some x → is_part o (k.new (pair_with port c x)) ≡ true) →
-        note_channels o (play out (port_block port o table k before out (said_at t track (NoteOn c j (suc v))))).notes ≡ note_channels o out.notes ++ cond (is_part o c) (on_target port k.new c (bend_target_if o.range (table j t))) []
+    struck : (c j v : ℕ) → is_part o c ≡ true → (is_part o c ≡ true → (x : BendTarget) → bend_target_if o.range (table j t) ≡ Some x →
+        is_part o (k.new (pair_with port c x)) ≡ true) →
+        note_channels o (play out (port_block port o table k before out (said_at t track (NoteOn c j (suc v))))).notes
+            ≡ note_channels o out.notes ++ cond (is_part o c) (on_target port k.new c (bend_target_if o.range (table j t))) []
     struck c j v p h =
         let e : MidiEvent = said_at t track (NoteOn c j (suc v)) in
-        ap (λ es. note_channels o (play out es).notes) (part_block port o table k before out t track (NoteOn c j (suc v)) (strikes port o table k (step before e) out c (suc v) (bend_target_if o.range (table j t))) p refl)
-        ∙ struck_channels law port o table k (step before e) out e c v (bend_target_if o.range (table j t)) (h p) ∙ ap (λ b. note_channels o out.notes ++ cond b (on_target port k.new c (bend_target_if o.range (table j t))) []) (sym p)
+        ap (λ es. note_channels o (play out es).notes) (part_block port o table k before out t track (NoteOn c j (suc v))
+            (strikes port o table k (step before e) out c (suc v) (bend_target_if o.range (table j t))) p refl)
+        ∙ struck_channels law port o table k (step before e) out e c v (bend_target_if o.range (table j t)) (h p)
+            ∙ ap (λ b. note_channels o out.notes ++ cond b (on_target port k.new c (bend_target_if o.range (table j t))) []) (sym p)
 
     drum_same : (m : Msg) → is_part o (channel_of m) ≡ false → begun_channels o (Says m) ≡ channel_begun port o table k.new t (Says m)
     drum_same (NoteOn c j zero) h = refl
-    drum_same (NoteOn c j (suc v)) h = ap (λ b. cond b (c ∷ []) []) h ∙ ap (λ b. cond b (on_target port k.new c (bend_target_if o.range (table j t))) []) (sym h)
+    drum_same (NoteOn c j (suc v)) h = ap (λ b. cond b (c ∷ []) []) h
+        ∙ ap (λ b. cond b (on_target port k.new c (bend_target_if o.range (table j t))) []) (sym h)
     drum_same (NoteOff c j v) h = refl
     drum_same (KeyPressure c j v) h = refl
     drum_same (Control c n v) h = refl
@@ -238,8 +268,10 @@ message_block law port o table k before out t track msg placed = elim (cases_Boo
     drum_same (Pressure c v) h = refl
     drum_same (Bend c v) h = refl
 
-pub block_channels : NotesFade → (port : ℕ) (o : Options) (table : Targets) (k : Moment) (before out : Music) (t track : ℕ) (w : MidiWhat) → Placed port o table k t w →
-    note_channels o (play out (port_block port o table k before out (port_event t track w))).notes ≡ note_channels o out.notes ++ channel_begun port o table k.new t w
+pub block_channels : NotesFade → (port : ℕ) (o : Options) (table : Targets) (k : Moment) (before out : Music) (t track : ℕ) (w : MidiWhat) →
+    Placed port o table k t w →
+    note_channels o (play out (port_block port o table k before out (port_event t track w))).notes
+        ≡ note_channels o out.notes ++ channel_begun port o table k.new t w
 block_channels law port o table k before out t track (Says msg) placed = message_block law port o table k before out t track msg placed
 block_channels law port o table k before out t track (SysexOf lead bytes) placed = step_channels law o out (port_event t track (SysexOf lead bytes))
 block_channels law port o table k before out t track (MetaOf kind bytes) placed = step_channels law o out (port_event t track (MetaOf kind bytes))

@@ -59,13 +59,15 @@ nat_apart a b h = ne_eqb a b (λ e. let x = ltb-true a b h in omega (arith, x, e
 part_apart : (p q : Part) → is_earlier_part p q ≡ true → is_same_part p q ≡ false
 part_apart p q h = elim (or_cases (nat_lt p.port q.port) (nat_eq p.port q.port && nat_lt p.channel q.channel) h) [
   | inl l ↦ and_left (nat_eq p.port q.port) (nat_eq p.channel q.channel) (nat_apart p.port q.port l)
-  | inr r ↦ and_right (nat_eq p.port q.port) (nat_eq p.channel q.channel) (nat_apart p.channel q.channel (and_parts (nat_eq p.port q.port) (nat_lt p.channel q.channel) r).1)
+  | inr r ↦ and_right (nat_eq p.port q.port) (nat_eq p.channel q.channel)
+      (nat_apart p.channel q.channel (and_parts (nat_eq p.port q.port) (nat_lt p.channel q.channel) r).1)
 ]
 
 before_other : (p q : Pair) → is_before p q ≡ true → is_same_pair p q ≡ false
 before_other p q h = elim (or_cases (is_earlier_part p.part q.part) (is_same_part p.part q.part && int_lt p.steps q.steps) h) [
   | inl l ↦ and_left (is_same_part p.part q.part) (int_eq p.steps q.steps) (part_apart p.part q.part l)
-  | inr r ↦ and_right (is_same_part p.part q.part) (int_eq p.steps q.steps) (int_apart p.steps q.steps (and_parts (is_same_part p.part q.part) (int_lt p.steps q.steps) r).1)
+  | inr r ↦ and_right (is_same_part p.part q.part) (int_eq p.steps q.steps)
+      (int_apart p.steps q.steps (and_parts (is_same_part p.part q.part) (int_lt p.steps q.steps) r).1)
 ]
 
 pub stand_once : (ps : List Pair) → AreOrdered ps → IsDistinct is_same_pair ps
@@ -102,14 +104,16 @@ at_number P (x ∷ xs) zero h l = h.0
 at_number P (x ∷ xs) (suc i) h l = at_number P xs i h.1 (omega (arith, l))
 
 -- what holds of each note of some parts
-unfiltered : (part : ℕ → Bool) (P : Note → Type 0) (ns : List Note) → AllByRecursion P (filter (λ (n : Note). part n.channel) ns) → AllByRecursion (λ n. part n.channel ≡ true → P n) ns
+unfiltered : (part : ℕ → Bool) (P : Note → Type 0) (ns : List Note) → AllByRecursion P (filter (λ (n : Note). part n.channel) ns) →
+    AllByRecursion (λ n. part n.channel ≡ true → P n) ns
 unfiltered part P [] h = tt
 unfiltered part P (n ∷ ns) h = pick (part n.channel) refl h (unfiltered part P ns)
   where
     rest : List Note
     rest = filter (λ (x : Note). part x.channel) ns
 
-    pick : (b : Bool) → part n.channel ≡ b → AllByRecursion P (cond b (n ∷ rest) rest) → (AllByRecursion P rest → AllByRecursion (λ x. part x.channel ≡ true → P x) ns) →
+    pick : (b : Bool) → part n.channel ≡ b → AllByRecursion P (cond b (n ∷ rest) rest) → (AllByRecursion P rest →
+        AllByRecursion (λ x. part x.channel ≡ true → P x) ns) →
         (part n.channel ≡ true → P n) × AllByRecursion (λ x. part x.channel ≡ true → P x) ns
     pick true e g f = ((λ p. g.0), f g.1)
     pick false e g f = ((λ p. absurd (both_ways (part n.channel) e p)), f g)
@@ -121,13 +125,15 @@ of_parts part (n ∷ ns) = pick (part n.channel) refl (of_parts part ns)
     rest : List Note
     rest = filter (λ (x : Note). part x.channel) ns
 
-    pick : (b : Bool) → part n.channel ≡ b → AllByRecursion (λ (x : Note). part x.channel ≡ true) rest → AllByRecursion (λ (x : Note). part x.channel ≡ true) (cond b (n ∷ rest) rest)
+    pick : (b : Bool) → part n.channel ≡ b → AllByRecursion (λ (x : Note). part x.channel ≡ true) rest →
+        AllByRecursion (λ (x : Note). part x.channel ≡ true) (cond b (n ∷ rest) rest)
     pick true e g = (e, g)
     pick false e g = g
 
 -- ---- what sounds holds its channel
 
-among_if : (z : ℕ) (ps : List Pair) (c : ℕ) (x : Option BendTarget) → (let p : Pair = record { part = record { port = z; channel = c }; steps = steps_of x } in Has ps p) → IsAmong z ps c x
+among_if : (z : ℕ) (ps : List Pair) (c : ℕ) (x : Option BendTarget) → (let p : Pair =
+    record { part = record { port = z; channel = c }; steps = steps_of x } in Has ps p) → IsAmong z ps c x
 among_if z ps c None h = tt
 among_if z ps c (Some t) h = h
 
@@ -140,10 +146,12 @@ sound_held : SoundingIsHeld → (o : Options) (table : Targets) (port : PortEven
 sound_held law o table port aimed k =
     let ps : List Pair = held_at o (is_part o) table port (suc k) in
     let z : ℕ = port.number in
-    all_weaker (λ n. is_part o n.channel ≡ true → sounds n ≡ true → Has ps (pair_of z o table n)) (λ n. is_part o n.channel ≡ true → sounds n ≡ true → IsAmong z ps n.channel (target_of o table n))
+    all_weaker (λ n. is_part o n.channel ≡ true → sounds n ≡ true → Has ps (pair_of z o table n))
+        (λ n. is_part o n.channel ≡ true → sounds n ≡ true → IsAmong z ps n.channel (target_of o table n))
     (λ n h part s. among_if z ps n.channel (target_of o table n) (h part s)) (music_at port.events k).notes
     (unfiltered (is_part o) (λ n. sounds n ≡ true → Has ps (pair_of z o table n)) (music_at port.events k).notes
-    (by_index (λ n. sounds n ≡ true → Has ps (pair_of z o table n)) (notes_at (is_part o) port.events k) (λ i l s. law o (is_part o) table port aimed k i (l, s))))
+    (by_index (λ n. sounds n ≡ true → Has ps (pair_of z o table n)) (notes_at (is_part o) port.events k)
+        (λ i l s. law o (is_part o) table port aimed k i (l, s))))
 
 sound_there : HeldWasThere → SoundingIsHeld → (o : Options) (table : Targets) (port : PortEvents) → IsAimedPort o (is_part o) table port → (k : ℕ) →
     SoundAmong port.number o table (pairs_at o (is_part o) table port k) (music_at port.events k).notes
@@ -157,7 +165,8 @@ sound_there within law o table port aimed k =
 
 -- ---- what an event begins
 
-begun_if : (z : ℕ) (o : Options) (t c j v : ℕ) (table : Targets) (x : Option BendTarget) (p : Pair) → bend_target_if o.range (table j t) ≡ x → (b : Bool) → is_part o c ≡ b → Has (cond b (pair_if z c x []) []) p →
+begun_if : (z : ℕ) (o : Options) (t c j v : ℕ) (table : Targets) (x : Option BendTarget) (p : Pair) → bend_target_if o.range (table j t) ≡ x →
+    (b : Bool) → is_part o c ≡ b → Has (cond b (pair_if z c x []) []) p →
     Begins z o table t (Says (NoteOn c j (suc v))) p
 begun_if z o t c j v table x p aim false part h = absurd (both_ways false refl h)
 begun_if z o t c j v table None p aim true part h = absurd (both_ways false refl h)
@@ -166,7 +175,8 @@ begun_if z o t c j v table (Some y) p aim true part h = (part, (y, aim, elim (or
   | inr e ↦ absurd (both_ways false refl e)
 ]))
 
-begins_pair : (z : ℕ) (o : Options) (table : Targets) (t : ℕ) (w : MidiWhat) (p : Pair) → Has (begun_pair z o (is_part o) table t w) p → Begins z o table t w p
+begins_pair : (z : ℕ) (o : Options) (table : Targets) (t : ℕ) (w : MidiWhat) (p : Pair) → Has (begun_pair z o (is_part o) table t w) p →
+    Begins z o table t w p
 begins_pair z o table t (Says (NoteOn c j zero)) p h = absurd (both_ways false refl h)
 begins_pair z o table t (Says (NoteOn c j (suc v))) p h = begun_if z o t c j v table (bend_target_if o.range (table j t)) p refl (is_part o c) refl h
 begins_pair z o table t (Says (NoteOff c j v)) p h = absurd (both_ways false refl h)
@@ -178,7 +188,8 @@ begins_pair z o table t (Says (Bend c v)) p h = absurd (both_ways false refl h)
 begins_pair z o table t (SysexOf lead bytes) p h = absurd (both_ways false refl h)
 begins_pair z o table t (MetaOf kind bytes) p h = absurd (both_ways false refl h)
 
-begins_one : (z : ℕ) (o : Options) (table : Targets) (x : Option MidiEvent) (p : Pair) → Has (begun_pairs z o (is_part o) table (events_if x)) p → BeginsIf z o table x p
+begins_one : (z : ℕ) (o : Options) (table : Targets) (x : Option MidiEvent) (p : Pair) → Has (begun_pairs z o (is_part o) table (events_if x)) p →
+    BeginsIf z o table x p
 begins_one z o table None p h = both_ways false refl h
 begins_one z o table (Some e) p h = begins_pair z o table e.tick e.what p h
 
@@ -188,7 +199,8 @@ record IsOfPort (o : Options) (z : ℕ) (p : Pair) : Type 0 where
   port : p.part.port ≡ z
   part : is_part o p.part.channel ≡ true
 
-of_port_pair : PairsAreOfNotes → (o : Options) (table : Targets) (port : PortEvents) (last : ℕ) → IsAimedPort o (is_part o) table port → (k : ℕ) (p : Pair) → k ≤ last → Has (pairs_at o (is_part o) table port k) p → IsOfPort o port.number p
+of_port_pair : PairsAreOfNotes → (o : Options) (table : Targets) (port : PortEvents) (last : ℕ) → IsAimedPort o (is_part o) table port → (k : ℕ)
+    (p : Pair) → k ≤ last → Has (pairs_at o (is_part o) table port k) p → IsOfPort o port.number p
 of_port_pair law o table port last aimed k p low h =
     let all : List Note = notes_at (is_part o) port.events last in
     let it = (law o (is_part o) table port last aimed).each k p low h in
@@ -199,13 +211,15 @@ of_port_pair law o table port last aimed k p low h =
 
 -- ---- a port of a source
 
-pub timely_port : PortsAreTimed → (o : Options) (allowed : ℕ → Bool) (table : Targets) (es : List MidiEvent) (need : ℕ → ℕ) (channel : ℕ → ℕ → Pair → ℕ) → IsBent o allowed table es need channel → (z : ℕ) → AreTimely (of_port z es) (length es)
+pub timely_port : PortsAreTimed → (o : Options) (allowed : ℕ → Bool) (table : Targets) (es : List MidiEvent) (need : ℕ → ℕ)
+    (channel : ℕ → ℕ → Pair → ℕ) → IsBent o allowed table es need channel → (z : ℕ) → AreTimely (of_port z es) (length es)
 timely_port timed o allowed table es need channel b z =
     record { rising = (timed z es b.sound.in_order).ascend; within = port_within z es; in_order = port_order 0 z all_zero 0 es b.sound.in_order }
 
 valid_port : (es : List MidiEvent) → AllByRecursion IsValidEvent es → (z last : ℕ) → AreValidTo (of_port z es) last
 valid_port es v z last k e low is =
-    let s : StandsAt (λ n. IsValidEvent n.event) (suc k) e = at_place (λ n. IsValidEvent n.event) (of_port z es) (each (of_port z es) (all_of_port IsValidEvent z all_zero 0 es v)) (suc k) e is in
+    let s : StandsAt (λ n. IsValidEvent n.event) (suc k) e = at_place (λ n. IsValidEvent n.event) (of_port z es)
+        (each (of_port z es) (all_of_port IsValidEvent z all_zero 0 es v)) (suc k) e is in
     subst IsValidEvent s.event s.holds
   where
     each : (ns : List Numbered) → AllByRecursion IsValidEvent (unnumbered ns) → AllByRecursion (λ (n : Numbered). IsValidEvent n.event) ns
@@ -213,13 +227,17 @@ valid_port es v z last k e low is =
     each (n ∷ ns) h = (h.0, each ns h.1)
 
 -- the places of the runs of a plan
-pub placed_on : PortFacts → (o : Options) (allowed : ℕ → Bool) (table : Targets) (es : List MidiEvent) (need : ℕ → ℕ) (channel : ℕ → ℕ → Pair → ℕ) → IsBent o allowed table es need channel → (z instant : ℕ) (row : ℕ → ℕ) →
-    IsBendPlan o allowed table es z (need z) instant row (channel z) → (k : ℕ) → k ≤ length es → HasPlaces (pairs_on o (is_part o) table es z) (need z) row k
+pub placed_on : PortFacts → (o : Options) (allowed : ℕ → Bool) (table : Targets) (es : List MidiEvent) (need : ℕ → ℕ)
+    (channel : ℕ → ℕ → Pair → ℕ) → IsBent o allowed table es need channel → (z instant : ℕ) (row : ℕ → ℕ) →
+    IsBendPlan o allowed table es z (need z) instant row (channel z) → (k : ℕ) → k ≤ length es → HasPlaces (pairs_on o (is_part o) table es z)
+        (need z) row k
 placed_on f o allowed table es need channel b z instant row plan =
     has_places (pairs_on o (is_part o) table es z) (length es) (need z) row
-    (f.one o (is_part o) table (port_at es z) (length es) (f.aimed o (is_part o) table es z (λ c h. h) b.sound)) (f.free o table es z (need z) row plan.takes)
+    (f.one o (is_part o) table (port_at es z) (length es) (f.aimed o (is_part o) table es z (λ c h. h) b.sound))
+        (f.free o table es z (need z) row plan.takes)
 
-pub planned_port : PortFacts → (o : Options) (allowed : ℕ → Bool) (table : Targets) (es : List MidiEvent) (need : ℕ → ℕ) (channel : ℕ → ℕ → Pair → ℕ) → IsBent o allowed table es need channel → (z : ℕ) →
+pub planned_port : PortFacts → (o : Options) (allowed : ℕ → Bool) (table : Targets) (es : List MidiEvent) (need : ℕ → ℕ)
+    (channel : ℕ → ℕ → Pair → ℕ) → IsBent o allowed table es need channel → (z : ℕ) →
     IsPlanned IsWellFormed o table (uses o allowed (need z)) (runs_on o table es channel z) (of_port z es) (length es)
 planned_port f o allowed table es need channel b z =
     let part : ℕ → Bool = is_part o in
@@ -242,12 +260,14 @@ planned_port f o allowed table es need channel b z =
       faultless = λ k e low is. (
           let P : Numbered → Type 0 = λ m. (j : ℕ) → m.position ≡ suc j → kind_behind o table false port j m.event ≡ None in
           let s : StandsAt P (suc k) e = at_place P ns (f.fine o table es z b.sound.faultless) (suc k) e is in
-          let here : kind_behind o table false port k e ≡ None = subst (λ x. kind_behind o table false port k x ≡ None) s.event (s.holds k s.position) in
+          let here : kind_behind o table false port k e ≡ None =
+              subst (λ x. kind_behind o table false port k x ≡ None) s.event (s.holds k s.position) in
           subst (λ m. kind_in z o table e.tick m (source_at ns (suc k)) false (at (suc k)) e.what ≡ None) (src k)
           (subst (λ m. kind_in z o table e.tick (music_at ns k) m false (at (suc k)) e.what ≡ None) (src (suc k)) here));
       start = one.none;
       there = λ k low. subst (λ (m : Music). SoundAmong z o table (at k) m.notes) (src k) (sound_there f.within f.sounding o table port aimed k);
-      held = λ k low. subst (λ (m : Music). SoundAmong z o table (held_on o part table es z (suc k)) m.notes) (src k) (sound_held f.sounding o table port aimed k);
+      held = λ k low. subst (λ (m : Music). SoundAmong z o table (held_on o part table es z (suc k)) m.notes) (src k)
+          (sound_held f.sounding o table port aimed k);
       once = λ k low. f.once o part table port (suc k);
       was_there = λ k p low h. f.within o part table port aimed k p h;
       from = λ k p low h g. (
@@ -258,9 +278,11 @@ planned_port f o allowed table es need channel b z =
           begins_one z o table (port_event ns (suc k)) p (subst (λ xs. Has (begun_pairs z o part table xs) p) (event_is 0 ns rising (suc k)) begins));
       kept = λ k p low h g. it.plan.given (suc k) p ∙ ap (λ j. get_or used (it.row j) 0) (since_kept at p k h) ∙ sym (it.plan.given k p);
       apart = λ k p q low h g e. (placed k low).apart p q h g
-          (lane_apart o allowed n it.plan.within (it.row (since is_same_pair at p k)) (it.row (since is_same_pair at q k)) ((placed k low).below p h) ((placed k low).below q g)
+          (lane_apart o allowed n it.plan.within (it.row (since is_same_pair at p k)) (it.row (since is_same_pair at q k))
+              ((placed k low).below p h) ((placed k low).below q g)
           (sym (it.plan.given k p) ∙ e ∙ it.plan.given k q));
-      used_at = λ k p low h. subst (λ c. uses o allowed n c ≡ true) (sym (it.plan.given k p)) (lane_used o allowed n it.plan.within (it.row (since is_same_pair at p k)) ((placed k low).below p h));
+      used_at = λ k p low h. subst (λ c. uses o allowed n c ≡ true) (sym (it.plan.given k p))
+          (lane_used o allowed n it.plan.within (it.row (since is_same_pair at p k)) ((placed k low).below p h));
       parts = λ k p low h. (of k p low h).part;
       ports = λ k p low h. (of k p low h).port;
       good = λ k p low. wanted_at f.one_sounds f.stay f.given o table b.range ns last valid k low p;

@@ -79,9 +79,11 @@ index_apart : (a : ℕ) (cs : List ℕ) → Rise a cs → (i j : ℕ) → i < le
 index_apart a [] h i j l m e = absurd (omega (arith, l))
 index_apart a (c ∷ cs) h zero zero l m e = refl
 index_apart a (c ∷ cs) h zero (suc j) l m e =
-    absurd (let g : suc c ≤ get_or cs j 0 = at_index (λ d. suc c ≤ d) cs j (all_above (suc c) cs h.1) (omega (arith, m)) in let f : c ≡ get_or cs j 0 = e in omega (arith, g, f))
+    absurd (let g : suc c ≤ get_or cs j 0 = at_index (λ d. suc c ≤ d) cs j (all_above (suc c) cs h.1)
+        (omega (arith, m)) in let f : c ≡ get_or cs j 0 = e in omega (arith, g, f))
 index_apart a (c ∷ cs) h (suc i) zero l m e =
-    absurd (let g : suc c ≤ get_or cs i 0 = at_index (λ d. suc c ≤ d) cs i (all_above (suc c) cs h.1) (omega (arith, l)) in let f : get_or cs i 0 ≡ c = e in omega (arith, g, f))
+    absurd (let g : suc c ≤ get_or cs i 0 = at_index (λ d. suc c ≤ d) cs i (all_above (suc c) cs h.1)
+        (omega (arith, l)) in let f : get_or cs i 0 ≡ c = e in omega (arith, g, f))
 index_apart a (c ∷ cs) h (suc i) (suc j) l m e = ap suc (index_apart (suc c) cs h.1 i j (omega (arith, l)) (omega (arith, m)) e)
 
 -- ---- the row
@@ -98,15 +100,19 @@ pub row_used : (o : Options) (allowed : ℕ → Bool) (n : ℕ) → o.route ≡ 
 row_used o allowed n route = record {
   route = route;
   channel = λ c u. (member_all (λ d. (d < 16) × ((allowed d && is_part o d) ≡ true)) (used_row o allowed n) c (row_all o allowed n) u).0;
-  retuned = λ c u. (and_parts (allowed c) (is_part o c) (member_all (λ d. (d < 16) × ((allowed d && is_part o d) ≡ true)) (used_row o allowed n) c (row_all o allowed n) u).1).1;
+  retuned = λ c u. (and_parts (allowed c) (is_part o c) (member_all (λ d. (d < 16) × ((allowed d && is_part o d) ≡ true))
+      (used_row o allowed n) c (row_all o allowed n) u).1).1;
 }
 
 row_length : (o : Options) (allowed : ℕ → Bool) (n : ℕ) → n ≤ length (allowed_row o allowed) → length (used_row o allowed n) ≡ n
 row_length o allowed n h = length-take-le n (allowed_row o allowed) h
 
-pub lane_used : (o : Options) (allowed : ℕ → Bool) (n : ℕ) → n ≤ length (allowed_row o allowed) → (i : ℕ) → i < n → uses o allowed n (get_or (used_row o allowed n) i 0) ≡ true
+pub lane_used : (o : Options) (allowed : ℕ → Bool) (n : ℕ) → n ≤ length (allowed_row o allowed) → (i : ℕ) → i < n →
+    uses o allowed n (get_or (used_row o allowed n) i 0) ≡ true
 lane_used o allowed n h i l = index_member (used_row o allowed n) i (subst (λ m. i < m) (sym (row_length o allowed n h)) l)
 
-pub lane_apart : (o : Options) (allowed : ℕ → Bool) (n : ℕ) → n ≤ length (allowed_row o allowed) → (i j : ℕ) → i < n → j < n → get_or (used_row o allowed n) i 0 ≡ get_or (used_row o allowed n) j 0 → i ≡ j
+pub lane_apart : (o : Options) (allowed : ℕ → Bool) (n : ℕ) → n ≤ length (allowed_row o allowed) → (i j : ℕ) → i < n → j < n →
+    get_or (used_row o allowed n) i 0 ≡ get_or (used_row o allowed n) j 0 → i ≡ j
 lane_apart o allowed n h i j l m e =
-    index_apart 0 (used_row o allowed n) (row_rises o allowed n) i j (subst (λ k. i < k) (sym (row_length o allowed n h)) l) (subst (λ k. j < k) (sym (row_length o allowed n h)) m) e
+    index_apart 0 (used_row o allowed n) (row_rises o allowed n) i j (subst (λ k. i < k) (sym (row_length o allowed n h)) l)
+        (subst (λ k. j < k) (sym (row_length o allowed n h)) m) e

@@ -20,18 +20,21 @@ use Rattle.bend_laws.proofs.Altered.{same_aside, all_default}
 use Rattle.bend_laws.proofs.Stepping.{Quiet, moved_notes}
 use Rattle.bend_laws.proofs.Events.{event_kept}
 
-next_source : (port : ℕ) (o : Options) (table : Targets) (k : Moment) (b : Both) (m : Music) (x : Option MidiEvent) → b.source ≡ m → (both_next port o table k b x).source ≡ source_next m x
+next_source : (port : ℕ) (o : Options) (table : Targets) (k : Moment) (b : Both) (m : Music) (x : Option MidiEvent) → b.source ≡ m →
+    (both_next port o table k b x).source ≡ source_next m x
 next_source port o table k b m None h = h
 next_source port o table k b m (Some e) h = ap (λ s. step s e) h
 
 pub source_is : (o : Options) (table : Targets) (plan : PortRuns) (ns : List Numbered) (k : ℕ) → (both_at o table plan ns k).source ≡ source_at ns k
 source_is o table plan ns zero = refl
-source_is o table plan ns (suc k) = next_source plan.number o table (moment plan k) (both_at o table plan ns k) (source_at ns k) (port_event ns (suc k)) (source_is o table plan ns k)
+source_is o table plan ns (suc k) = next_source plan.number o table (moment plan k) (both_at o table plan ns k) (source_at ns k)
+    (port_event ns (suc k)) (source_is o table plan ns k)
 
 none_there : (ps : List Pair) (p : Pair) → ps ≡ [] → Has ps p → ⊥
 none_there ps p h i = both_ways false refl (ap (λ qs. is_member is_same_pair qs p) (sym h) ∙ i)
 
-at_first : (Good : State → Type 0) → Laws Good → (o : Options) (table : Targets) (used : ℕ → Bool) (plan : PortRuns) (ns : List Numbered) (last : ℕ) → IsPlanned Good o table used plan ns last → Follows Good plan.number o table used (plan.channel 0) (plan.pairs 0) nothing_yet
+at_first : (Good : State → Type 0) → Laws Good → (o : Options) (table : Targets) (used : ℕ → Bool) (plan : PortRuns) (ns : List Numbered)
+    (last : ℕ) → IsPlanned Good o table used plan ns last → Follows Good plan.number o table used (plan.channel 0) (plan.pairs 0) nothing_yet
 at_first Good laws o table used plan ns last given = record {
   notes = tt;
   states = λ c u. same_aside (channel_at quiet c) default_channel (all_default 16 c);
@@ -45,11 +48,13 @@ at_first Good laws o table used plan ns last given = record {
 }
 
 -- at a position of another port rests may end, and nothing else changes
-waits : (Good : State → Type 0) (port : ℕ) (o : Options) (table : Targets) (used : ℕ → Bool) (old new : Pair → ℕ) (was is : List Pair) (b : Both) → ((p : Pair) → Has is p → Has was p × (new p ≡ old p)) → SoundAmong port o table is b.source.notes →
+waits : (Good : State → Type 0) (port : ℕ) (o : Options) (table : Targets) (used : ℕ → Bool) (old new : Pair → ℕ) (was is : List Pair) (b : Both) →
+    ((p : Pair) → Has is p → Has was p × (new p ≡ old p)) → SoundAmong port o table is b.source.notes →
     Follows Good port o table used old was b → Follows Good port o table used new is b
 waits Good port o table used old new was is b h among f =
     let k : Moment = record { was = was; holds = is; is = is; old = old; new = new } in
-    let quiet : Quiet k = record { held = λ p i. i; none = λ p g. both_ways (is_member is_same_pair was p) g.new (h p g.is).0; stays = λ p i. (h p i).1 } in
+    let quiet : Quiet k = record { held = λ p i. i; none = λ p g. both_ways (is_member is_same_pair was p) g.new (h p g.is).0; stays =
+        λ p i. (h p i).1 } in
     record {
       notes = moved_notes port o table k b.source.notes b.out.notes quiet among f.notes;
       states = f.states;
@@ -62,13 +67,15 @@ waits Good port o table used old new was is b h among f =
       out_reached = f.out_reached;
     }
 
-pub sound_at : (Good : State → Type 0) (o : Options) (table : Targets) (used : ℕ → Bool) (plan : PortRuns) (ns : List Numbered) (last : ℕ) → IsPlanned Good o table used plan ns last → (k : ℕ) → k < last → (e : MidiEvent) → port_event ns (suc k) ≡ Some e →
+pub sound_at : (Good : State → Type 0) (o : Options) (table : Targets) (used : ℕ → Bool) (plan : PortRuns) (ns : List Numbered) (last : ℕ) →
+    IsPlanned Good o table used plan ns last → (k : ℕ) → k < last → (e : MidiEvent) → port_event ns (suc k) ≡ Some e →
     IsGiven Good plan.number o table used (moment plan k) (source_at ns k) e
 sound_at Good o table used plan ns last given k low e is =
     let next : source_at ns (suc k) ≡ step (source_at ns k) e = ap (source_next (source_at ns k)) is in
     record {
       valid = given.valid k e low is;
-      faultless = subst (λ m. kind_in plan.number o table e.tick (source_at ns k) m false (plan.pairs (suc k)) e.what ≡ None) next (given.faultless k e low is);
+      faultless = subst (λ m. kind_in plan.number o table e.tick (source_at ns k) m false (plan.pairs (suc k)) e.what
+          ≡ None) next (given.faultless k e low is);
       held = given.held k low;
       there = subst (λ (m : Music). SoundAmong plan.number o table (plan.pairs (suc k)) m.notes) next (given.there (suc k) low);
       once = given.once k low;
@@ -86,21 +93,27 @@ sound_at Good o table used plan ns last given k low e is =
       reset = λ r. given.reset k e low is r;
     }
 
-pub follows_at : (Good : State → Type 0) → Laws Good → (o : Options) (table : Targets) (used : ℕ → Bool) → AreUsed o used → (plan : PortRuns) (ns : List Numbered) (last : ℕ) → IsPlanned Good o table used plan ns last →
+pub follows_at : (Good : State → Type 0) → Laws Good → (o : Options) (table : Targets) (used : ℕ → Bool) → AreUsed o used → (plan : PortRuns)
+    (ns : List Numbered) (last : ℕ) → IsPlanned Good o table used plan ns last →
     (k : ℕ) → k ≤ last → Follows Good plan.number o table used (plan.channel k) (plan.pairs k) (both_at o table plan ns k)
 follows_at Good laws o table used row plan ns last given zero low = at_first Good laws o table used plan ns last given
-follows_at Good laws o table used row plan ns last given (suc k) low = go (follows_at Good laws o table used row plan ns last given k (omega arith)) (port_event ns (suc k)) refl
+follows_at Good laws o table used row plan ns last given (suc k) low =
+    go (follows_at Good laws o table used row plan ns last given k (omega arith)) (port_event ns (suc k)) refl
   where
     b : Both
     b = both_at o table plan ns k
 
-    go : Follows Good plan.number o table used (plan.channel k) (plan.pairs k) (both_at o table plan ns k) → (x : Option MidiEvent) → port_event ns (suc k) ≡ x →
-        Follows Good plan.number o table used (plan.channel (suc k)) (plan.pairs (suc k)) (both_next plan.number o table (moment plan k) (both_at o table plan ns k) x)
+    go : Follows Good plan.number o table used (plan.channel k) (plan.pairs k) (both_at o table plan ns k) → (x : Option MidiEvent) →
+        port_event ns (suc k) ≡ x →
+        Follows Good plan.number o table used (plan.channel (suc k)) (plan.pairs (suc k))
+            (both_next plan.number o table (moment plan k) (both_at o table plan ns k) x)
     go f (Some e) is =
         event_kept Good laws plan.number o table used row (moment plan k) (both_at o table plan ns k) e f
-        (subst (λ m. IsGiven Good plan.number o table used (moment plan k) m e) (sym (source_is o table plan ns k)) (sound_at Good o table used plan ns last given k low e is))
+        (subst (λ m. IsGiven Good plan.number o table used (moment plan k) m e) (sym (source_is o table plan ns k))
+            (sound_at Good o table used plan ns last given k low e is))
     go f None is =
-        let same : source_at ns (suc k) ≡ (both_at o table plan ns k).source = ap (source_next (source_at ns k)) is ∙ sym (source_is o table plan ns k) in
+        let same : source_at ns (suc k) ≡ (both_at o table plan ns k).source = ap (source_next (source_at ns k)) is
+            ∙ sym (source_is o table plan ns k) in
         waits Good plan.number o table used (plan.channel k) (plan.channel (suc k)) (plan.pairs k) (plan.pairs (suc k)) (both_at o table plan ns k)
         (λ p i.
         let h : is_member is_same_pair (plan.held (suc k)) p ≡ true = elim (cases_Bool (is_member is_same_pair (plan.held (suc k)) p)) [

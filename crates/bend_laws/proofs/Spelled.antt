@@ -25,25 +25,32 @@ voice_all c P h now v =
     let high : List Msg = where_differs (control_of now 0) v.high (Control c 0 v.high) in
     let low : List Msg = where_differs (control_of now 32) v.low (Control c 32 v.low) in
     cond_both (voice_eq now.voice v) [] ((high ++ low) ++ Program c v.program ∷ []) (AllByRecursion P) (λ e. tt)
-    (λ e. all_append P (high ++ low) (Program c v.program ∷ []) (all_append P high low (differs_all P (control_of now 0) v.high (Control c 0 v.high) (h.control 0 v.high)) (differs_all P (control_of now 32) v.low (Control c 32 v.low) (h.control 32 v.low))) (h.program v.program, tt))
+    (λ e. all_append P (high ++ low) (Program c v.program ∷ [])
+        (all_append P high low (differs_all P (control_of now 0) v.high (Control c 0 v.high) (h.control 0 v.high))
+        (differs_all P (control_of now 32) v.low (Control c 32 v.low) (h.control 32 v.low))) (h.program v.program, tt))
 
 controls_all : (c : ℕ) (P : Msg → Type 0) → HoldsOn c P → (n : ℕ) (xs ys : List ℕ) → AllByRecursion P (bring_controls c n xs ys)
 controls_all c P h n [] ys = tt
 controls_all c P h n (x ∷ xs) [] = tt
-controls_all c P h n (x ∷ xs) (y ∷ ys) = all_append P (where_differs x y (Control c n y)) (bring_controls c (n + 1) xs ys) (differs_all P x y (Control c n y) (h.control n y)) (controls_all c P h (n + 1) xs ys)
+controls_all c P h n (x ∷ xs) (y ∷ ys) = all_append P (where_differs x y (Control c n y)) (bring_controls c (n + 1) xs ys)
+    (differs_all P x y (Control c n y) (h.control n y)) (controls_all c P h (n + 1) xs ys)
 
 parameter_all : (c : ℕ) (P : Msg → Type 0) → HoldsOn c P → (now : ℕ × ℕ) (e : Entry) → AllByRecursion P (bring_parameter c now e)
 parameter_all c P h now e =
     let first : List Msg = where_differs now.0 e.value.0 (Control c 6 e.value.0) in
     let second : List Msg = where_differs now.1 e.value.1 (Control c 38 e.value.1) in
     all_append P (choose_parameter c e.parameter) (first ++ second)
-    (cond_both e.parameter.registered (Control c 101 e.parameter.high ∷ Control c 100 e.parameter.low ∷ []) (Control c 99 e.parameter.high ∷ Control c 98 e.parameter.low ∷ []) (AllByRecursion P)
-    (λ g. (h.control 101 e.parameter.high, (h.control 100 e.parameter.low, tt))) (λ g. (h.control 99 e.parameter.high, (h.control 98 e.parameter.low, tt))))
-    (all_append P first second (differs_all P now.0 e.value.0 (Control c 6 e.value.0) (h.control 6 e.value.0)) (differs_all P now.1 e.value.1 (Control c 38 e.value.1) (h.control 38 e.value.1)))
+    (cond_both e.parameter.registered (Control c 101 e.parameter.high ∷ Control c 100 e.parameter.low ∷ [])
+        (Control c 99 e.parameter.high ∷ Control c 98 e.parameter.low ∷ []) (AllByRecursion P)
+    (λ g. (h.control 101 e.parameter.high, (h.control 100 e.parameter.low, tt)))
+        (λ g. (h.control 99 e.parameter.high, (h.control 98 e.parameter.low, tt))))
+    (all_append P first second (differs_all P now.0 e.value.0 (Control c 6 e.value.0) (h.control 6 e.value.0))
+        (differs_all P now.1 e.value.1 (Control c 38 e.value.1) (h.control 38 e.value.1)))
 
 each_all : (c : ℕ) (P : Msg → Type 0) → HoldsOn c P → (now es : List Entry) → AllByRecursion P (bring_each c now es)
 each_all c P h now [] = tt
-each_all c P h now (e ∷ es) = all_append P (bring_parameter c (value_of now e.parameter) e) (bring_each c now es) (parameter_all c P h (value_of now e.parameter) e) (each_all c P h now es)
+each_all c P h now (e ∷ es) = all_append P (bring_parameter c (value_of now e.parameter) e) (bring_each c now es)
+    (parameter_all c P h (value_of now e.parameter) e) (each_all c P h now es)
 
 closed_all : (c : ℕ) (P : Msg → Type 0) → HoldsOn c P → (ms : List Msg) → AllByRecursion P ms → AllByRecursion P (closed c ms)
 closed_all c P h [] g = tt
@@ -52,7 +59,8 @@ closed_all c P h (m ∷ ms) g = all_append P (m ∷ ms) (Control c 101 127 ∷ C
 keys_all : (c : ℕ) (P : Msg → Type 0) → HoldsOn c P → (k : ℕ) (xs ys : List ℕ) → AllByRecursion P (bring_keys c k xs ys)
 keys_all c P h k [] ys = tt
 keys_all c P h k (x ∷ xs) [] = tt
-keys_all c P h k (x ∷ xs) (y ∷ ys) = all_append P (where_differs x y (KeyPressure c k y)) (bring_keys c (k + 1) xs ys) (differs_all P x y (KeyPressure c k y) (h.key k y)) (keys_all c P h (k + 1) xs ys)
+keys_all c P h k (x ∷ xs) (y ∷ ys) = all_append P (where_differs x y (KeyPressure c k y)) (bring_keys c (k + 1) xs ys)
+    (differs_all P x y (KeyPressure c k y) (h.key k y)) (keys_all c P h (k + 1) xs ys)
 
 pub bring_holds : (c : ℕ) (P : Msg → Type 0) → HoldsOn c P → (now wanted : State) → AllByRecursion P (bring c now wanted)
 bring_holds c P h now wanted =
@@ -65,8 +73,10 @@ bring_holds c P h now wanted =
     all_append P ((((voice ++ controls) ++ closed c each) ++ pressure) ++ bend) keys
     (all_append P (((voice ++ controls) ++ closed c each) ++ pressure) bend
     (all_append P ((voice ++ controls) ++ closed c each) pressure
-    (all_append P (voice ++ controls) (closed c each) (all_append P voice controls (voice_all c P h now.own wanted.own.voice) (controls_all c P h 0 (apply_all now voice).own.controls wanted.own.controls))
-    (closed_all c P h each (each_all c P h now.own.params (to_default now.own.params wanted.own.params ++ to_other now.own.params wanted.own.params))))
+    (all_append P (voice ++ controls) (closed c each) (all_append P voice controls (voice_all c P h now.own wanted.own.voice)
+        (controls_all c P h 0 (apply_all now voice).own.controls wanted.own.controls))
+    (closed_all c P h each (each_all c P h now.own.params
+        (to_default now.own.params wanted.own.params ++ to_other now.own.params wanted.own.params))))
     (differs_all P now.own.pressure wanted.own.pressure (Pressure c wanted.own.pressure) (h.pressure wanted.own.pressure)))
     (differs_all P now.own.bend wanted.own.bend (Bend c wanted.own.bend) (h.bend wanted.own.bend)))
     (keys_all c P h 0 now.keys wanted.keys)

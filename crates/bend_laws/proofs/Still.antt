@@ -38,11 +38,14 @@ pub record StandsStill (port : ℕ) (o : Options) (table : Targets) (used : ℕ 
   pub out_reached : IsReached x
 
 -- the state of a channel that a pair holds, as it was before
-pub held_state : (Good : State → Type 0) (port : ℕ) (o : Options) (table : Targets) (used : ℕ → Bool) (k : Moment) (b : Both) (e : MidiEvent) → Follows Good port o table used k.old k.was b → IsGiven Good port o table used k b.source e →
+pub held_state : (Good : State → Type 0) (port : ℕ) (o : Options) (table : Targets) (used : ℕ → Bool) (k : Moment) (b : Both) (e : MidiEvent) →
+    Follows Good port o table used k.old k.was b → IsGiven Good port o table used k b.source e →
     (p : Pair) → Has k.was p → IsSameAside (channel_at b.out (k.old p)) (wanted o table b.source p).own
-held_state Good port o table used k b e follows sound p h = subst (IsSameAside (channel_at b.out (k.old p))) (follows.at_wanted p h) (follows.states (k.old p) (sound.used_was p h))
+held_state Good port o table used k b e follows sound p h = subst (IsSameAside (channel_at b.out (k.old p))) (follows.at_wanted p h)
+    (follows.states (k.old p) (sound.used_was p h))
 
-pub still_stepped : (Good : State → Type 0) (port : ℕ) (o : Options) (table : Targets) (used : ℕ → Bool) (k : Moment) (b : Both) (e : MidiEvent) (x : Music) → Follows Good port o table used k.old k.was b → IsGiven Good port o table used k b.source e → Quiet k →
+pub still_stepped : (Good : State → Type 0) (port : ℕ) (o : Options) (table : Targets) (used : ℕ → Bool) (k : Moment) (b : Both) (e : MidiEvent)
+    (x : Music) → Follows Good port o table used k.old k.was b → IsGiven Good port o table used k b.source e → Quiet k →
     StandsStill port o table used k b (step b.source e) x → Stepped port o table used k b (step b.source e) x
 still_stepped Good port o table used k b e x follows sound quiet s = record {
   notes = moved_notes port o table k (step b.source e).notes x.notes quiet sound.there s.notes;
@@ -50,7 +53,8 @@ still_stepped Good port o table used k b e x follows sound quiet s = record {
   begins = λ p g. absurd (quiet.none p g);
   holds = λ p h free.
       subst (λ c. IsSameAside c (wanted o table (step b.source e) p).own) (sym (s.out (k.old p) (sound.used_was p (sound.was_there p h))))
-      (subst (IsSameAside (channel_at b.out (k.old p))) (sym (same_own o table b.source (step b.source e) p (s.source p.part.channel (sound.parts p (sound.was_there p h)))))
+      (subst (IsSameAside (channel_at b.out (k.old p))) (sym (same_own o table b.source (step b.source e) p
+          (s.source p.part.channel (sound.parts p (sound.was_there p h)))))
       (held_state Good port o table used k b e follows sound p (sound.was_there p h)));
   others = λ c u free none. subst (λ d. IsSameAside d (b.left c)) (sym (s.out c u)) (follows.states c u);
   same = λ p i h. absurd (both_ways (is_member is_same_pair k.holds p) h (quiet.held p i));
@@ -61,7 +65,8 @@ still_stepped Good port o table used k b e x follows sound quiet s = record {
 }
 
 -- nothing changes at all
-pub nothing_changes : (Good : State → Type 0) (port : ℕ) (o : Options) (table : Targets) (used : ℕ → Bool) (k : Moment) (b : Both) (after x : Music) → Follows Good port o table used k.old k.was b → after ≡ b.source → x ≡ b.out → StandsStill port o table used k b after x
+pub nothing_changes : (Good : State → Type 0) (port : ℕ) (o : Options) (table : Targets) (used : ℕ → Bool) (k : Moment) (b : Both)
+    (after x : Music) → Follows Good port o table used k.old k.was b → after ≡ b.source → x ≡ b.out → StandsStill port o table used k b after x
 nothing_changes Good port o table used k b after x follows h g =
     let is : StandsStill port o table used k b b.source b.out = record {
       notes = follows.notes;
@@ -85,7 +90,8 @@ abbrev pub IsPassed : MidiWhat → Type 0
 IsPassed (Says msg) = ⊥
 IsPassed _ = Unit {0}
 
-pub passed_block : (port : ℕ) (o : Options) (table : Targets) (k : Moment) (before out : Music) (t track : ℕ) (w : MidiWhat) → IsPassed w → port_block port o table k before out (port_event t track w) ≡ port_event t track w ∷ []
+pub passed_block : (port : ℕ) (o : Options) (table : Targets) (k : Moment) (before out : Music) (t track : ℕ) (w : MidiWhat) → IsPassed w →
+    port_block port o table k before out (port_event t track w) ≡ port_event t track w ∷ []
 passed_block port o table k before out t track (Says msg) h = absurd h
 passed_block port o table k before out t track (SysexOf lead bytes) h = refl
 passed_block port o table k before out t track (MetaOf kind bytes) h = refl
@@ -116,36 +122,48 @@ no_message (Says m) h msg e = h
 no_message (SysexOf lead bytes) h msg e = sysex_no_message (nat_eq lead 0xf0) (is_reset bytes) (tuning_of bytes) msg e
 no_message (MetaOf kind bytes) h msg e = cc
 
-pub passed_follows : (Good : State → Type 0) (port : ℕ) (o : Options) (table : Targets) (used : ℕ → Bool) (k : Moment) (b : Both) (t track : ℕ) (w : MidiWhat) → IsPassed w → resets (doing w) ≡ false →
-    Follows Good port o table used k.old k.was b → IsGiven Good port o table used k b.source (port_event t track w) → Follows Good port o table used k.new k.is (next_both port o table k b (port_event t track w))
+pub passed_follows : (Good : State → Type 0) (port : ℕ) (o : Options) (table : Targets) (used : ℕ → Bool) (k : Moment) (b : Both) (t track : ℕ)
+    (w : MidiWhat) → IsPassed w → resets (doing w) ≡ false →
+    Follows Good port o table used k.old k.was b → IsGiven Good port o table used k b.source (port_event t track w) →
+        Follows Good port o table used k.new k.is (next_both port o table k b (port_event t track w))
 passed_follows Good port o table used k b t track w passed none follows sound =
     let e : MidiEvent = port_event t track w in
     let x : Music = play b.out (port_block port o table k b.source b.out e) in
-    let same : x ≡ b.out = ap (play b.out) (passed_block port o table k b.source b.out t track w passed) ∙ no_change b.out t (doing w) none (no_message w passed) in
+    let same : x ≡ b.out = ap (play b.out) (passed_block port o table k b.source b.out t track w passed)
+        ∙ no_change b.out t (doing w) none (no_message w passed) in
     follows_next Good port o table used k b e follows sound none
-    (still_stepped Good port o table used k b e x follows sound (quiet_moment Good port o table used k b.source e sound (none_passed port o table t w passed))
+    (still_stepped Good port o table used k b e x follows sound (quiet_moment Good port o table used k b.source e sound
+        (none_passed port o table t w passed))
     (nothing_changes Good port o table used k b (step b.source e) x follows (no_change b.source t (doing w) none (no_message w passed)) same))
 
 -- ---- controllers that are ignored
 
 -- a message that leaves its channel and all notes as they are
-unheard : (m : Music) (t : ℕ) (msg : Msg) → IsSettled m → asks m msg ≡ None → apply (channel_at m (channel_of msg)) msg ≡ channel_at m (channel_of msg) → notes_after m t msg ≡ m.notes → advance t (Plays msg) m ≡ m
+unheard : (m : Music) (t : ℕ) (msg : Msg) → IsSettled m → asks m msg ≡ None → apply (channel_at m (channel_of msg)) msg
+    ≡ channel_at m (channel_of msg) → notes_after m t msg ≡ m.notes → advance t (Plays msg) m ≡ m
 unheard m t msg s h same notes =
     let c : ℕ = channel_of msg in
-    let channels : set m.channels c (apply (channel_at m c) msg) ≡ m.channels = ap (set m.channels c) same ∙ set-get_or m.channels c default_channel in
-    said m t msg h ∙ ap (λ ss. let x : Music = record { channels = ss; zones = m.zones; notes = map (settle_note ss m.zones t) (notes_after m t msg) } in x) channels
+    let channels : set m.channels c (apply (channel_at m c) msg) ≡ m.channels = ap (set m.channels c) same
+        ∙ set-get_or m.channels c default_channel in
+    said m t msg h ∙ ap (λ ss. let x : Music = record { channels = ss; zones = m.zones; notes = map (settle_note ss m.zones t)
+        (notes_after m t msg) } in x) channels
     ∙ ap (λ ns. let x : Music = record { channels = m.channels; zones = m.zones; notes = map (settle_note m.channels m.zones t) ns } in x) notes
     ∙ ap (λ ns. let x : Music = record { channels = m.channels; zones = m.zones; notes = ns } in x) (s.notes t)
 
-pub ignored_follows : (Good : State → Type 0) → Laws Good → (port : ℕ) (o : Options) (table : Targets) (used : ℕ → Bool) (k : Moment) (b : Both) (t track c n v : ℕ) → role n ≡ Ignored → is_part o c ≡ true →
-    Follows Good port o table used k.old k.was b → IsGiven Good port o table used k b.source (said_at t track (Control c n v)) → Follows Good port o table used k.new k.is (next_both port o table k b (said_at t track (Control c n v)))
+pub ignored_follows : (Good : State → Type 0) → Laws Good → (port : ℕ) (o : Options) (table : Targets) (used : ℕ → Bool) (k : Moment) (b : Both)
+    (t track c n v : ℕ) → role n ≡ Ignored → is_part o c ≡ true →
+    Follows Good port o table used k.old k.was b → IsGiven Good port o table used k b.source (said_at t track (Control c n v)) →
+        Follows Good port o table used k.new k.is (next_both port o table k b (said_at t track (Control c n v)))
 ignored_follows Good laws port o table used k b t track c n v ignored part follows sound =
     let msg : Msg = Control c n v in
     let e : MidiEvent = said_at t track msg in
     let x : Music = play b.out (port_block port o table k b.source b.out e) in
     let fit : IsFine port o table b.source (step b.source e) k.is t msg = fine port o table b.source (step b.source e) k.is t msg sound.faultless in
     let after : step b.source e ≡ b.source =
-    unheard b.source t msg follows.source_settled (laws.zones o b.source msg fit.zone) (ap (controlled (channel_at b.source c) n v) ignored) (ap (notes_turned b.source t c n v) ignored) in
-    let same : x ≡ b.out = ap (play b.out) (part_block port o table k b.source b.out t track msg [] part (ap (controller_causes o table (step b.source e) b.out (held_by k.old c k.holds) n v) ignored)) in
+    unheard b.source t msg follows.source_settled (laws.zones o b.source msg fit.zone) (ap (controlled (channel_at b.source c) n v) ignored)
+        (ap (notes_turned b.source t c n v) ignored) in
+    let same : x ≡ b.out = ap (play b.out) (part_block port o table k b.source b.out t track msg [] part
+        (ap (controller_causes o table (step b.source e) b.out (held_by k.old c k.holds) n v) ignored)) in
     follows_next Good port o table used k b e follows sound refl
-    (still_stepped Good port o table used k b e x follows sound (quiet_moment Good port o table used k b.source e sound (λ p h. h)) (nothing_changes Good port o table used k b (step b.source e) x follows after same))
+    (still_stepped Good port o table used k b e x follows sound (quiet_moment Good port o table used k b.source e sound (λ p h. h))
+        (nothing_changes Good port o table used k b (step b.source e) x follows after same))

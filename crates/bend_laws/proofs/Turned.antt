@@ -43,23 +43,28 @@ pub governs_not : (c : ℕ) (n : Note) → n.channel ≢ c → nat_eq (governor 
 governs_not c n h = ne_eqb (governor no_zones n.channel) c (λ e. h (sym (own_governor n.channel) ∙ e))
 
 abbrev sostenuto_if : Bool → ℕ → ℕ → Note → Note
-sostenuto_if b x v n = cond (b && sounds n) (cond (is_pedal_down x) (cond (is_pedal_down v) n (record n { captured = false })) (cond (is_pedal_down v && is_down n) (record n { captured = true }) n)) n
+sostenuto_if b x v n = cond (b && sounds n) (cond (is_pedal_down x) (cond (is_pedal_down v) n (record n { captured = false }))
+    (cond (is_pedal_down v && is_down n) (record n { captured = true }) n)) n
 
-sostenuto_true : (x v : ℕ) (n : Note) (e : Option ℕ) → (let y : Note = record n { ended = e } in sostenuto_if true x v y ≡ record y { captured = turned_captured x v y.release y.captured e })
+sostenuto_true : (x v : ℕ) (n : Note) (e : Option ℕ) → (let y : Note =
+    record n { ended = e } in sostenuto_if true x v y ≡ record y { captured = turned_captured x v y.release y.captured e })
 sostenuto_true x v n (Some s) = refl
 sostenuto_true x v n None = pick (is_pedal_down x) (is_pedal_down v) (is_some n.release)
   where
     y : Note
     y = record n { ended = None }
 
-    pick : (a b r : Bool) → cond a (cond b (record n { ended = None }) (record n { ended = None; captured = false })) (cond (b && not r) (record n { ended = None; captured = true }) (record n { ended = None })) ≡ record n { ended = None; captured = cond a (cond b n.captured false) (cond (b && not r) true n.captured) }
+    pick : (a b r : Bool) → cond a (cond b (record n { ended = None }) (record n { ended = None; captured = false }))
+        (cond (b && not r) (record n { ended = None; captured = true }) (record n { ended = None }))
+        ≡ record n { ended = None; captured = cond a (cond b n.captured false) (cond (b && not r) true n.captured) }
     pick true true r = refl
     pick true false r = refl
     pick false true true = refl
     pick false true false = refl
     pick false false r = refl
 
-pub sostenuto_here : (c x v : ℕ) (n : Note) → n.channel ≡ c → sostenuto no_zones c x v n ≡ record n { captured = turned_captured x v n.release n.captured n.ended }
+pub sostenuto_here : (c x v : ℕ) (n : Note) → n.channel ≡ c → sostenuto no_zones c x v n ≡ record n { captured =
+    turned_captured x v n.release n.captured n.ended }
 sostenuto_here c x v n h = ap (λ b. sostenuto_if b x v n) (governs c n h) ∙ sostenuto_true x v n n.ended
 
 pub sostenuto_elsewhere : (c x v : ℕ) (n : Note) → n.channel ≢ c → sostenuto no_zones c x v n ≡ n
@@ -97,43 +102,53 @@ map_fixed f (n ∷ ns) h = (cc, map_fixed f ns cc)
 
 pub all_stay : (m : Music) → m.zones ≡ no_zones → IsSettled m → AllByRecursion (Stays m.channels) m.notes
 all_stay m z h = subst (λ w. AllByRecursion (λ n. sounds n ≡ true → is_over m.channels w n ≡ false) m.notes) z
-    (all_weaker (λ n. settle_note m.channels m.zones 0 n ≡ n) (λ n. sounds n ≡ true → is_over m.channels m.zones n ≡ false) (settled_note m.channels m.zones) m.notes (map_fixed (settle_note m.channels m.zones 0) m.notes (h.notes 0)))
+    (all_weaker (λ n. settle_note m.channels m.zones 0 n ≡ n) (λ n. sounds n ≡ true → is_over m.channels m.zones n ≡ false)
+        (settled_note m.channels m.zones) m.notes (map_fixed (settle_note m.channels m.zones 0) m.notes (h.notes 0)))
 
 -- the hold pedal of a note's own channel
-pub pedal_here : (ss : List Channel) (c : ℕ) (x : Channel) (n : Note) → c < length ss → n.channel ≡ c → pedal (set ss c x) no_zones n ≡ control_of x 64
-pedal_here ss c x n low h = ap (λ d. control_of (get_or (set ss c x) d default_channel) 64) (own_governor n.channel ∙ h) ∙ ap (λ (s : Channel). control_of s 64) (get_or-set_same ss c x default_channel low)
+pub pedal_here : (ss : List Channel) (c : ℕ) (x : Channel) (n : Note) → c < length ss → n.channel ≡ c →
+    pedal (set ss c x) no_zones n ≡ control_of x 64
+pedal_here ss c x n low h = ap (λ d. control_of (get_or (set ss c x) d default_channel) 64) (own_governor n.channel ∙ h)
+    ∙ ap (λ (s : Channel). control_of s 64) (get_or-set_same ss c x default_channel low)
 
 pub pedal_elsewhere : (ss : List Channel) (c : ℕ) (x : Channel) (n : Note) → n.channel ≢ c → pedal (set ss c x) no_zones n ≡ pedal ss no_zones n
-pedal_elsewhere ss c x n h = ap (λ (s : Channel). control_of s 64) (get_or-set_other ss c (governor no_zones n.channel) x default_channel (λ e. h (sym (own_governor n.channel) ∙ e)))
+pedal_elsewhere ss c x n h = ap (λ (s : Channel). control_of s 64)
+    (get_or-set_other ss c (governor no_zones n.channel) x default_channel (λ e. h (sym (own_governor n.channel) ∙ e)))
 
 abbrev settled_if : Bool → ℕ → Note → Note
 settled_if b t n = cond b (ending t n) n
 
-still : (t : ℕ) (n : Note) (e : Option ℕ) → (let y : Note = record n { ended = e } in (b : Bool) → (sounds y ≡ true → b ≡ false) → settled_if b t y ≡ y)
+still : (t : ℕ) (n : Note) (e : Option ℕ) → (let y : Note = record n { ended = e } in (b : Bool) → (sounds y ≡ true → b ≡ false) →
+    settled_if b t y ≡ y)
 still t n (Some s) true h = refl
 still t n (Some s) false h = refl
 still t n None true h = absurd (both_ways true (h refl) refl)
 still t n None false h = refl
 
 -- a note of another channel stays
-pub settle_elsewhere : (ss : List Channel) (c : ℕ) (x : Channel) (t : ℕ) (n : Note) → n.channel ≢ c → Stays ss n → settle_note (set ss c x) no_zones t n ≡ n
+pub settle_elsewhere : (ss : List Channel) (c : ℕ) (x : Channel) (t : ℕ) (n : Note) → n.channel ≢ c → Stays ss n →
+    settle_note (set ss c x) no_zones t n ≡ n
 settle_elsewhere ss c x t n h s =
-    let over : is_over (set ss c x) no_zones n ≡ is_over ss no_zones n = ap (λ p. is_some n.release && (not n.captured && not (is_pedal_down p))) (pedal_elsewhere ss c x n h) in
+    let over : is_over (set ss c x) no_zones n ≡ is_over ss no_zones n = ap (λ p. is_some n.release && (not n.captured && not (is_pedal_down p)))
+        (pedal_elsewhere ss c x n h) in
     still t n n.ended (is_over (set ss c x) no_zones n) (λ g. over ∙ s g)
 
 -- a note of the channel ends where both pedals let it go
 pub settle_turned : (t x v hold p : ℕ) (n : Note) (e : Option ℕ) →
     (let k : Bool = turned_captured x v n.release n.captured e in
     let y : Note = record n { captured = k; pressure = p; ended = e } in
-    settled_if (is_some n.release && (not k && not (is_pedal_down hold))) t y ≡ record n { captured = k; pressure = p; ended = turned_ended t x v hold n.release n.captured e })
+    settled_if (is_some n.release && (not k && not (is_pedal_down hold))) t y ≡ record n { captured = k; pressure = p; ended =
+        turned_ended t x v hold n.release n.captured e })
 settle_turned t x v hold p n (Some s) = pick (is_some n.release && (not n.captured && not (is_pedal_down hold)))
   where
     pick : (b : Bool) → settled_if b t (record n { pressure = p; ended = Some s }) ≡ record n { pressure = p; ended = Some s }
     pick true = refl
     pick false = refl
-settle_turned t x v hold p n None = pick (turned_captured x v n.release n.captured None) (is_some n.release && (not (turned_captured x v n.release n.captured None) && not (is_pedal_down hold)))
+settle_turned t x v hold p n None = pick (turned_captured x v n.release n.captured None)
+    (is_some n.release && (not (turned_captured x v n.release n.captured None) && not (is_pedal_down hold)))
   where
-    pick : (k b : Bool) → settled_if b t (record n { captured = k; pressure = p; ended = None }) ≡ record n { captured = k; pressure = p; ended = cond b (Some t) None }
+    pick : (k b : Bool) → settled_if b t (record n { captured = k; pressure = p; ended = None })
+        ≡ record n { captured = k; pressure = p; ended = cond b (Some t) None }
     pick k true = refl
     pick k false = refl
 
@@ -147,18 +162,21 @@ pub record IsTurned (c t : ℕ) (now after : Channel) (a x : Note) : Type 0 wher
 -- what a message does to a note of its channel, before it settles
 pub record IsCaptured (c : ℕ) (now after : Channel) (a x : Note) : Type 0 where
   pub pressure : ℕ
-  pub here : a.channel ≡ c → x ≡ record a { captured = turned_captured (control_of now 66) (control_of after 66) a.release a.captured a.ended; pressure = pressure }
+  pub here : a.channel ≡ c → x ≡ record a { captured = turned_captured (control_of now 66)
+      (control_of after 66) a.release a.captured a.ended; pressure = pressure }
   pub elsewhere : a.channel ≢ c → x ≡ a
 
 pub settles : (ss : List Channel) (c t : ℕ) (after : Channel) (a x : Note) → c < length ss → Stays ss a →
-    IsCaptured c (get_or ss c default_channel) after a x → IsTurned c t (get_or ss c default_channel) after a (settle_note (set ss c after) no_zones t x)
+    IsCaptured c (get_or ss c default_channel) after a x →
+        IsTurned c t (get_or ss c default_channel) after a (settle_note (set ss c after) no_zones t x)
 settles ss c t after a x low s h = record {
   pressure = h.pressure;
   here = λ e.
       let now : Channel = get_or ss c default_channel in
       let k : Bool = turned_captured (control_of now 66) (control_of after 66) a.release a.captured a.ended in
       let y : Note = record a { captured = k; pressure = h.pressure } in
-      ap (settle_note (set ss c after) no_zones t) (h.here e) ∙ ap (λ p. settled_if (is_some a.release && (not k && not (is_pedal_down p))) t y) (pedal_here ss c after y low e)
+      ap (settle_note (set ss c after) no_zones t) (h.here e) ∙ ap (λ p. settled_if (is_some a.release && (not k && not (is_pedal_down p))) t y)
+          (pedal_here ss c after y low e)
       ∙ settle_turned t (control_of now 66) (control_of after 66) (control_of after 64) h.pressure a a.ended;
   elsewhere = λ e. ap (settle_note (set ss c after) no_zones t) (h.elsewhere e) ∙ settle_elsewhere ss c after t a e s;
 }
@@ -173,8 +191,12 @@ pub record IsTurnedBy (c t : ℕ) (m x : Music) : Type 0 where
   pub others : (d : ℕ) → d ≢ c → channel_at x d ≡ channel_at m d
   pub zones : x.zones ≡ no_zones
 
-pub all_settle : (ss : List Channel) (c t : ℕ) (after : Channel) (f : Note → Note) (ns : List Note) → c < length ss → ((a : Note) → IsCaptured c (get_or ss c default_channel) after a (f a)) →
-    AllByRecursion (Stays ss) ns → AllByRecursion (λ a. IsTurned c t (get_or ss c default_channel) (get_or (set ss c after) c default_channel) a (settle_note (set ss c after) no_zones t (f a))) ns
+pub all_settle : (ss : List Channel) (c t : ℕ) (after : Channel) (f : Note → Note) (ns : List Note) → c < length ss →
+    ((a : Note) → IsCaptured c (get_or ss c default_channel) after a (f a)) →
+    AllByRecursion (Stays ss) ns → AllByRecursion (λ a. IsTurned c t (get_or ss c default_channel)
+        (get_or (set ss c after) c default_channel) a (settle_note (set ss c after) no_zones t (f a))) ns
 all_settle ss c t after f ns low h s =
-    all_weaker (Stays ss) (λ a. IsTurned c t (get_or ss c default_channel) (get_or (set ss c after) c default_channel) a (settle_note (set ss c after) no_zones t (f a)))
-    (λ a g. subst (λ (x : Channel). IsTurned c t (get_or ss c default_channel) x a (settle_note (set ss c after) no_zones t (f a))) (sym (get_or-set_same ss c after default_channel low)) (settles ss c t after a (f a) low g (h a))) ns s
+    all_weaker (Stays ss) (λ a. IsTurned c t (get_or ss c default_channel)
+        (get_or (set ss c after) c default_channel) a (settle_note (set ss c after) no_zones t (f a)))
+    (λ a g. subst (λ (x : Channel). IsTurned c t (get_or ss c default_channel) x a (settle_note (set ss c after) no_zones t (f a)))
+        (sym (get_or-set_same ss c after default_channel low)) (settles ss c t after a (f a) low g (h a))) ns s

@@ -22,7 +22,8 @@ pub record Captures (m : Music) (c : ℕ) (after : Channel) (ns : List Note) : T
   pub each : (a : Note) → IsCaptured c (channel_at m c) after a (turn a)
 
 message_turned : (m : Music) (t : ℕ) (msg : Msg) → m.zones ≡ no_zones → IsSettled m → asks m msg ≡ None → channel_of msg < 16 →
-    Captures m (channel_of msg) (apply (channel_at m (channel_of msg)) msg) (notes_after m t msg) → IsTurnedBy (channel_of msg) t m (advance t (Plays msg) m)
+    Captures m (channel_of msg) (apply (channel_at m (channel_of msg)) msg) (notes_after m t msg) →
+        IsTurnedBy (channel_of msg) t m (advance t (Plays msg) m)
 message_turned m t msg z s h low k =
     let c : ℕ = channel_of msg in
     let after : Channel = apply (channel_at m c) msg in
@@ -31,7 +32,8 @@ message_turned m t msg z s h low k =
     let x : Music = record { channels = ss; zones = m.zones; notes = map (settle_note ss m.zones t) (notes_after m t msg) } in
     let is : IsTurnedBy c t m x = record {
       turn = λ a. settle_note ss no_zones t (k.turn a);
-      notes = ap (λ w. map (settle_note ss w t) (notes_after m t msg)) z ∙ ap (map (settle_note ss no_zones t)) k.notes ∙ map_map (settle_note ss no_zones t) k.turn m.notes;
+      notes = ap (λ w. map (settle_note ss w t) (notes_after m t msg)) z ∙ ap (map (settle_note ss no_zones t)) k.notes
+          ∙ map_map (settle_note ss no_zones t) k.turn m.notes;
       each = all_settle m.channels c t after k.turn m.notes wide k.each (all_stay m z s);
       others = λ d e. get_or-set_other m.channels c d after default_channel e;
       zones = z;
@@ -45,20 +47,23 @@ same_note c now after a h = record {
   pressure = a.pressure;
   here = λ e.
       let k : turned_captured (control_of now 66) (control_of after 66) a.release a.captured a.ended ≡ a.captured =
-      ap (λ v. turned_captured (control_of now 66) v a.release a.captured a.ended) h ∙ captured_same (control_of now 66) a.release a.captured a.ended in
+      ap (λ v. turned_captured (control_of now 66) v a.release a.captured a.ended) h
+          ∙ captured_same (control_of now 66) a.release a.captured a.ended in
       ap (λ b. let y : Note = record a { captured = b } in y) (sym k);
   elsewhere = λ e. refl;
 }
 
 same_notes : (m : Music) (c : ℕ) (after : Channel) → control_of after 66 ≡ control_of (channel_at m c) 66 → Captures m c after m.notes
-same_notes m c after h = record { turn = λ a. a; notes = sym (map_same (λ a. a) (λ a. refl) m.notes); each = λ a. same_note c (channel_at m c) after a h }
+same_notes m c after h = record { turn = λ a. a; notes = sym (map_same (λ a. a) (λ a. refl) m.notes); each =
+    λ a. same_note c (channel_at m c) after a h }
 
 -- ---- key pressure
 
 pressed_note : (c k v : ℕ) (now : Channel) (a : Note) → IsCaptured c now now a (with_pressure c k v a)
 pressed_note c k v now a = record {
   pressure = (with_pressure c k v a).pressure;
-  here = λ e. pick (is_at c k a && sounds a) ∙ ap (λ b. let y : Note = record a { captured = b; pressure = (with_pressure c k v a).pressure } in y) (sym (captured_same (control_of now 66) a.release a.captured a.ended));
+  here = λ e. pick (is_at c k a && sounds a) ∙ ap (λ b. let y : Note = record a { captured = b; pressure = (with_pressure c k v a).pressure } in y)
+      (sym (captured_same (control_of now 66) a.release a.captured a.ended));
   elsewhere = λ e. ap (λ b. cond ((b && nat_eq a.key k) && sounds a) (record a { pressure = v }) a) (ne_eqb a.channel c e);
 }
   where
@@ -75,17 +80,21 @@ Brings AllNotesOff = ⊥
 Brings _ = Unit {0}
 
 sostenuto_turns : (c v : ℕ) (now after : Channel) (a : Note) → control_of after 66 ≡ v → a.channel ≡ c →
-    sostenuto no_zones c (control_of now 66) v a ≡ record a { captured = turned_captured (control_of now 66) (control_of after 66) a.release a.captured a.ended }
-sostenuto_turns c v now after a h e = sostenuto_here c (control_of now 66) v a e ∙ ap (λ w. let y : Note = record a { captured = turned_captured (control_of now 66) w a.release a.captured a.ended } in y) (sym h)
+    sostenuto no_zones c (control_of now 66) v a ≡ record a { captured = turned_captured (control_of now 66)
+        (control_of after 66) a.release a.captured a.ended }
+sostenuto_turns c v now after a h e = sostenuto_here c (control_of now 66) v a e ∙ ap (λ w. let y : Note =
+    record a { captured = turned_captured (control_of now 66) w a.release a.captured a.ended } in y) (sym h)
 
-sostenuto_note : (c v : ℕ) (now after : Channel) (a : Note) → control_of after 66 ≡ v → IsCaptured c now after a (sostenuto no_zones c (control_of now 66) v a)
+sostenuto_note : (c v : ℕ) (now after : Channel) (a : Note) → control_of after 66 ≡ v →
+    IsCaptured c now after a (sostenuto no_zones c (control_of now 66) v a)
 sostenuto_note c v now after a h = record {
   pressure = a.pressure;
   here = λ e. sostenuto_turns c v now after a h e;
   elsewhere = λ e. sostenuto_elsewhere c (control_of now 66) v a e;
 }
 
-sostenuto_pedal : (m : Music) (c v : ℕ) (after : Channel) → m.zones ≡ no_zones → control_of after 66 ≡ v → Captures m c after (map (sostenuto m.zones c (control_of (channel_at m c) 66) v) m.notes)
+sostenuto_pedal : (m : Music) (c v : ℕ) (after : Channel) → m.zones ≡ no_zones → control_of after 66 ≡ v →
+    Captures m c after (map (sostenuto m.zones c (control_of (channel_at m c) 66) v) m.notes)
 sostenuto_pedal m c v after z h = record {
   turn = sostenuto no_zones c (control_of (channel_at m c) 66) v;
   notes = ap (λ w. map (sostenuto w c (control_of (channel_at m c) 66) v) m.notes) z;
@@ -93,7 +102,8 @@ sostenuto_pedal m c v after z h = record {
 }
 
 stored : (m : Music) (c n v : ℕ) (b : Bool) → nat_eq n 66 ≡ b → m.zones ≡ no_zones → length (channel_at m c).controls ≡ 120 →
-    Captures m c (record (channel_at m c) { controls = set (channel_at m c).controls n v }) (cond b (map (sostenuto m.zones c (control_of (channel_at m c) 66) v) m.notes) m.notes)
+    Captures m c (record (channel_at m c) { controls = set (channel_at m c).controls n v })
+        (cond b (map (sostenuto m.zones c (control_of (channel_at m c) 66) v) m.notes) m.notes)
 stored m c n v true e z l =
     let is : n ≡ 66 = eqb-true n 66 e in
     sostenuto_pedal m c v (record (channel_at m c) { controls = set (channel_at m c).controls n v }) z
@@ -106,24 +116,30 @@ stored m c n v false e z l =
 reset_pedal : (cs : List ℕ) → length cs ≡ 120 → get_or (reset_controls cs) 66 0 ≡ 0
 reset_pedal cs l =
     let before : List ℕ = set (set (set (set cs 1 0) 11 127) 64 0) 65 0 in
-    let wide : length before ≡ 120 = length-set (set (set (set cs 1 0) 11 127) 64 0) 65 0 ∙ length-set (set (set cs 1 0) 11 127) 64 0 ∙ length-set (set cs 1 0) 11 127 ∙ length-set cs 1 0 ∙ l in
+    let wide : length before ≡ 120 = length-set (set (set (set cs 1 0) 11 127) 64 0) 65 0 ∙ length-set (set (set cs 1 0) 11 127) 64 0
+        ∙ length-set (set cs 1 0) 11 127 ∙ length-set cs 1 0 ∙ l in
     get_or-set_other (set before 66 0) 67 66 0 0 (λ e. absurd (omega (arith, e))) ∙ get_or-set_same before 66 0 0 (omega (arith, wide))
 
-relaxed : (c : ℕ) (a y : Note) (k : Bool) → y ≡ record a { captured = k } → a.channel ≡ c → without_pressure c y ≡ record a { captured = k; pressure = (without_pressure c y).pressure }
-relaxed c a y k is h = ap (without_pressure c) is ∙ pick (nat_eq a.channel c && sounds a) ∙ ap (λ (x : Note). let z : Note = record a { captured = k; pressure = (without_pressure c x).pressure } in z) (sym is)
+relaxed : (c : ℕ) (a y : Note) (k : Bool) → y ≡ record a { captured = k } → a.channel ≡ c →
+    without_pressure c y ≡ record a { captured = k; pressure = (without_pressure c y).pressure }
+relaxed c a y k is h = ap (without_pressure c) is ∙ pick (nat_eq a.channel c && sounds a)
+    ∙ ap (λ (x : Note). let z : Note = record a { captured = k; pressure = (without_pressure c x).pressure } in z) (sym is)
   where
-    pick : (b : Bool) → cond b (record a { captured = k; pressure = 0 }) (record a { captured = k }) ≡ record a { captured = k; pressure = (cond b (record a { captured = k; pressure = 0 }) (record a { captured = k })).pressure }
+    pick : (b : Bool) → cond b (record a { captured = k; pressure = 0 }) (record a { captured = k }) ≡ record a { captured = k; pressure =
+        (cond b (record a { captured = k; pressure = 0 }) (record a { captured = k })).pressure }
     pick true = refl
     pick false = refl
 
 relaxed_elsewhere : (c : ℕ) (a : Note) → a.channel ≢ c → without_pressure c a ≡ a
 relaxed_elsewhere c a h = ap (λ b. cond (b && sounds a) (record a { pressure = 0 }) a) (ne_eqb a.channel c h)
 
-reset_note : (c : ℕ) (now after : Channel) (a : Note) → control_of after 66 ≡ 0 → IsCaptured c now after a (without_pressure c (sostenuto no_zones c (control_of now 66) 0 a))
+reset_note : (c : ℕ) (now after : Channel) (a : Note) → control_of after 66 ≡ 0 →
+    IsCaptured c now after a (without_pressure c (sostenuto no_zones c (control_of now 66) 0 a))
 reset_note c now after a h =
     record {
       pressure = (without_pressure c (sostenuto no_zones c (control_of now 66) 0 a)).pressure;
-      here = λ e. relaxed c a (sostenuto no_zones c (control_of now 66) 0 a) (turned_captured (control_of now 66) (control_of after 66) a.release a.captured a.ended) (sostenuto_turns c 0 now after a h e) e;
+      here = λ e. relaxed c a (sostenuto no_zones c (control_of now 66) 0 a) (turned_captured (control_of now 66)
+          (control_of after 66) a.release a.captured a.ended) (sostenuto_turns c 0 now after a h e) e;
       elsewhere = λ e. ap (without_pressure c) (sostenuto_elsewhere c (control_of now 66) 0 a e) ∙ relaxed_elsewhere c a e;
     }
 
@@ -157,12 +173,14 @@ message_captures : (m : Music) (t : ℕ) (msg : Msg) → IsBringing msg → m.zo
     Captures m (channel_of msg) (apply (channel_at m (channel_of msg)) msg) (notes_after m t msg)
 message_captures m t (NoteOn c k v) b z l = absurd b
 message_captures m t (NoteOff c k v) b z l = absurd b
-message_captures m t (KeyPressure c k v) b z l = record { turn = with_pressure c k v; notes = refl; each = λ a. pressed_note c k v (channel_at m c) a }
+message_captures m t (KeyPressure c k v) b z l = record { turn = with_pressure c k v; notes = refl; each =
+    λ a. pressed_note c k v (channel_at m c) a }
 message_captures m t (Control c n v) b z l = controller_captures m t c n v (role n) b z l
 message_captures m t (Program c p) b z l = same_notes m c (apply (channel_at m c) (Program c p)) refl
 message_captures m t (Pressure c v) b z l = same_notes m c (apply (channel_at m c) (Pressure c v)) refl
 message_captures m t (Bend c v) b z l = same_notes m c (apply (channel_at m c) (Bend c v)) refl
 
-pub message_turns : (m : Music) (t : ℕ) (msg : Msg) → IsBringing msg → m.zones ≡ no_zones → IsSettled m → asks m msg ≡ None → channel_of msg < 16 → length (channel_at m (channel_of msg)).controls ≡ 120 →
+pub message_turns : (m : Music) (t : ℕ) (msg : Msg) → IsBringing msg → m.zones ≡ no_zones → IsSettled m → asks m msg ≡ None → channel_of msg < 16 →
+    length (channel_at m (channel_of msg)).controls ≡ 120 →
     IsTurnedBy (channel_of msg) t m (advance t (Plays msg) m)
 message_turns m t msg b z s h low l = message_turned m t msg z s h low (message_captures m t msg b z l)

@@ -55,7 +55,8 @@ step_low : (m : Music) (e : MidiEvent) → IsValidEvent e → KeysLow m.notes �
 step_low m e v h =
     let g : GrowsTo m (begun_by m e.tick (doing e.what)) (step m e).notes = event_touches m e.tick (doing e.what) in
     subst KeysLow (sym g.notes) (all_append (λ (n : Note). n.key < 128) (map g.turn m.notes) (begun_by m e.tick (doing e.what))
-    (all_mapped (λ (n : Note). n.key < 128) g.turn (λ (n : Note). n.key < 128) (λ n l. subst (λ k. k < 128) (sym (g.each n).same.key) l) m.notes h) (new_low m e.tick e.what v.what))
+    (all_mapped (λ (n : Note). n.key < 128) g.turn (λ (n : Note). n.key < 128) (λ n l. subst (λ k. k < 128) (sym (g.each n).same.key) l) m.notes h)
+        (new_low m e.tick e.what v.what))
 
 pub record IsFineSource (m : Music) : Type 0 where
   pub reached : IsReached m
@@ -81,20 +82,26 @@ Soft n = sounds n ≡ true → n.pressure ≤ 127
 soft_notes : OneSounds → ReceiversStay → (m : Music) → IsFineSource m → AllByRecursion Soft m.notes
 soft_notes one stay m h =
     let P : ℕ → Note → Type 0 = λ c n. sounds n ≡ true → n.channel ≡ c → key_pressure m.notes c n.key ≡ n.pressure in
-    let own : AllByRecursion (λ n. P n.channel n) m.notes = all_own P m.notes (λ c. own_pressure c m.notes (λ k. subst (λ (y : Music). sounding_on c k y.notes ≤ 1) (sym h.reached.is) (one h.reached.events c k))) in
+    let own : AllByRecursion (λ n. P n.channel n) m.notes =
+        all_own P m.notes (λ c. own_pressure c m.notes (λ k. subst (λ (y : Music). sounding_on c k y.notes ≤ 1) (sym h.reached.is)
+        (one h.reached.events c k))) in
     all_weaker (λ n. P n.channel n × (n.key < 128)) Soft
     (λ n q s.
     let w : IsWellFormed (state_at m n.channel) = well_reached stay m n.channel h.reached in
-    let at : get_or (state_at m n.channel).keys n.key 0 ≡ n.pressure = pressure_at m.notes n.channel 0 128 n.key q.1 ∙ ap (key_pressure m.notes n.channel) (let u : 0 + n.key ≡ n.key = omega arith in u) ∙ q.0 s refl in
+    let at : get_or (state_at m n.channel).keys n.key 0 ≡ n.pressure = pressure_at m.notes n.channel 0 128 n.key q.1
+        ∙ ap (key_pressure m.notes n.channel) (let u : 0 + n.key ≡ n.key = omega arith in u) ∙ q.0 s refl in
     subst (λ p. p ≤ 127) at (w.key_bytes n.key))
     m.notes (all_both (λ n. P n.channel n) (λ (n : Note). n.key < 128) m.notes own h.low)
 
-soft_sounding : (o : Options) (ns : List Note) → AllByRecursion Soft ns → AllByRecursion (λ (n : Note). n.pressure ≤ 127) (filter (λ n. is_part o n.channel && sounds n) ns)
+soft_sounding : (o : Options) (ns : List Note) → AllByRecursion Soft ns → AllByRecursion (λ (n : Note). n.pressure ≤ 127)
+    (filter (λ n. is_part o n.channel && sounds n) ns)
 soft_sounding o [] h = tt
 soft_sounding o (n ∷ ns) h = elim (cases_Bool (is_part o n.channel && sounds n)) [
-  | inl e ↦ subst (λ b. AllByRecursion (λ (x : Note). x.pressure ≤ 127) (cond b (n ∷ filter (λ x. is_part o x.channel && sounds x) ns) (filter (λ x. is_part o x.channel && sounds x) ns))) (sym e)
+  | inl e ↦ subst (λ b. AllByRecursion (λ (x : Note). x.pressure ≤ 127) (cond b (n ∷ filter (λ x. is_part o x.channel && sounds x) ns)
+      (filter (λ x. is_part o x.channel && sounds x) ns))) (sym e)
       (h.0 (and_parts (is_part o n.channel) (sounds n) e).1, soft_sounding o ns h.1)
-  | inr e ↦ subst (λ b. AllByRecursion (λ (x : Note). x.pressure ≤ 127) (cond b (n ∷ filter (λ x. is_part o x.channel && sounds x) ns) (filter (λ x. is_part o x.channel && sounds x) ns))) (sym e) (soft_sounding o ns h.1)
+  | inr e ↦ subst (λ b. AllByRecursion (λ (x : Note). x.pressure ≤ 127) (cond b (n ∷ filter (λ x. is_part o x.channel && sounds x) ns)
+      (filter (λ x. is_part o x.channel && sounds x) ns))) (sym e) (soft_sounding o ns h.1)
 ]
 
 zeros : (n k : ℕ) → get_or (replicate n 0) k 0 ≤ 127
@@ -111,13 +118,17 @@ soft_set ks i p low small h k = elim (cases_eq k i) [
   | inr e ↦ subst (λ x. x ≤ 127) (sym (get_or-set_other ks i k p 0 e)) (h k)
 ]
 
-soft_if : (o : Options) (table : Targets) (p : Pair) (n : Note) (ns : List Note) (x : Option BendTarget) → target_of o table n ≡ x → n.pressure ≤ 127 → SoftKeys (wanted_keys o table p ns) → SoftKeys (key_set (wanted_keys o table p ns) x n.pressure)
+soft_if : (o : Options) (table : Targets) (p : Pair) (n : Note) (ns : List Note) (x : Option BendTarget) → target_of o table n ≡ x →
+    n.pressure ≤ 127 → SoftKeys (wanted_keys o table p ns) → SoftKeys (key_set (wanted_keys o table p ns) x n.pressure)
 soft_if o table p n ns None e small h = h
-soft_if o table p n ns (Some t) e small h = soft_set (wanted_keys o table p ns) t.key n.pressure (subst (λ l. t.key < l) (sym (wanted_wide o table p ns)) (aim_fits o.range (table n.key n.onset) t e)) small h
+soft_if o table p n ns (Some t) e small h = soft_set (wanted_keys o table p ns) t.key n.pressure (subst (λ l. t.key < l)
+    (sym (wanted_wide o table p ns)) (aim_fits o.range (table n.key n.onset) t e)) small h
 
-soft_keys : (o : Options) (table : Targets) (p : Pair) (ns : List Note) → AllByRecursion (λ (n : Note). n.pressure ≤ 127) ns → SoftKeys (wanted_keys o table p ns)
+soft_keys : (o : Options) (table : Targets) (p : Pair) (ns : List Note) → AllByRecursion (λ (n : Note). n.pressure ≤ 127) ns →
+    SoftKeys (wanted_keys o table p ns)
 soft_keys o table p [] h = zeros 128
-soft_keys o table p (n ∷ ns) h = cond_both (has_pair p n (target_of o table n)) (key_set (wanted_keys o table p ns) (target_of o table n) n.pressure) (wanted_keys o table p ns) SoftKeys
+soft_keys o table p (n ∷ ns) h = cond_both (has_pair p n (target_of o table n)) (key_set (wanted_keys o table p ns)
+    (target_of o table n) n.pressure) (wanted_keys o table p ns) SoftKeys
     (λ e. soft_if o table p n ns (target_of o table n) refl h.0 (soft_keys o table p ns h.1)) (λ e. soft_keys o table p ns h.1)
 
 -- ---- a bend is one
@@ -132,10 +143,14 @@ bend_fits (negsuc n) = omega arith
 
 -- ---- what a pair needs
 
-well_wanted : OneSounds → ReceiversStay → StaysWellFormedWith → (o : Options) (table : Targets) → o.range ≤ 127 → (m : Music) → IsFineSource m → (p : Pair) → IsWellFormed (wanted o table m p)
+well_wanted : OneSounds → ReceiversStay → StaysWellFormedWith → (o : Options) (table : Targets) → o.range ≤ 127 → (m : Music) → IsFineSource m →
+    (p : Pair) → IsWellFormed (wanted o table m p)
 well_wanted one stay given o table range m h p =
-    given (state_at m p.part.channel) o.range (bend_value ((pos 8192 +ℤ p.steps) +ℤ bend_in_steps o.range (channel_at m p.part.channel))) (wanted_keys o table p (sounding o m)) (well_reached stay m p.part.channel h.reached) range
-    (bend_fits ((pos 8192 +ℤ p.steps) +ℤ bend_in_steps o.range (channel_at m p.part.channel))) (wanted_wide o table p (sounding o m)) (soft_keys o table p (sounding o m) (soft_sounding o m.notes (soft_notes one stay m h)))
+    given (state_at m p.part.channel) o.range (bend_value ((pos 8192 +ℤ p.steps) +ℤ bend_in_steps o.range (channel_at m p.part.channel)))
+        (wanted_keys o table p (sounding o m)) (well_reached stay m p.part.channel h.reached) range
+    (bend_fits ((pos 8192 +ℤ p.steps) +ℤ bend_in_steps o.range (channel_at m p.part.channel))) (wanted_wide o table p (sounding o m))
+        (soft_keys o table p (sounding o m) (soft_sounding o m.notes (soft_notes one stay m h)))
 
-pub wanted_at : OneSounds → ReceiversStay → StaysWellFormedWith → (o : Options) (table : Targets) → o.range ≤ 127 → (ns : List Numbered) (last : ℕ) → AreValidTo ns last → (k : ℕ) → k ≤ last → (p : Pair) → IsWellFormed (wanted o table (source_at ns k) p)
+pub wanted_at : OneSounds → ReceiversStay → StaysWellFormedWith → (o : Options) (table : Targets) → o.range ≤ 127 → (ns : List Numbered)
+    (last : ℕ) → AreValidTo ns last → (k : ℕ) → k ≤ last → (p : Pair) → IsWellFormed (wanted o table (source_at ns k) p)
 wanted_at one stay given o table range ns last v k low p = well_wanted one stay given o table range (source_at ns k) (fine_source ns last v k low) p

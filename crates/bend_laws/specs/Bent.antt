@@ -24,7 +24,8 @@ pub record IsBentPort (o : Options) (allowed : ℕ → Bool) (table : Targets) (
   pub plan : IsBendPlan o allowed table es z n instant row channel
 
 -- The events are valid and have no fault, and each port has a plan; `need z` is what port z needs.
-pub record IsBent (o : Options) (allowed : ℕ → Bool) (table : Targets) (es : List MidiEvent) (need : ℕ → ℕ) (channel : ℕ → ℕ → Pair → ℕ) : Type 0 where
+pub record IsBent (o : Options) (allowed : ℕ → Bool) (table : Targets) (es : List MidiEvent) (need : ℕ → ℕ)
+    (channel : ℕ → ℕ → Pair → ℕ) : Type 0 where
   pub route : o.route ≡ ByBend
   pub range : o.range ≤ 127
   pub valid : AllByRecursion IsValidEvent es

@@ -21,12 +21,14 @@ use Rattle.bend_laws.specs.Bent.{uses, IsBent, IsTuned, IsOnUsed, NoneHeld}
 
 -- a sentence about a source with a plan for each of its ports
 abbrev pub OfBent : (Options → (ℕ → Bool) → Targets → List MidiEvent → (ℕ → ℕ) → (ℕ → ℕ → Pair → ℕ) → Type 0) → Type 0
-OfBent P = (o : Options) (allowed : ℕ → Bool) (table : Targets) (es : List MidiEvent) (need : ℕ → ℕ) (channel : ℕ → ℕ → Pair → ℕ) → IsBent o allowed table es need channel → P o allowed table es need channel
+OfBent P = (o : Options) (allowed : ℕ → Bool) (table : Targets) (es : List MidiEvent) (need : ℕ → ℕ) (channel : ℕ → ℕ → Pair → ℕ) →
+    IsBent o allowed table es need channel → P o allowed table es need channel
 
 -- at every position of the file each port plays what the source's does
 abbrev pub PortsPlay : Type 0
 PortsPlay = OfBent (λ o allowed table es need channel. (z k : ℕ) → k ≤ length es →
-    (let runs = runs_on o table es channel z in PlaysAt o table (uses o allowed (need z)) runs (of_port z es) k (both_at o table runs (of_port z es) k)))
+    (let runs = runs_on o table es channel z in PlaysAt o table (uses o allowed (need z)) runs (of_port z es) k
+        (both_at o table runs (of_port z es) k)))
 
 -- the musics there are those of the port's events up to the position, and of what is written for them
 abbrev pub PortsAreTheirEvents : Type 0
@@ -49,11 +51,13 @@ BentIsPlayable = OfBent (λ o allowed table es need channel. (tracks : ℕ) → 
 
 -- on each port it speaks to no part but on the channels of the used row
 abbrev pub BentIsOnTheRow : Type 0
-BentIsOnTheRow = OfBent (λ o allowed table es need channel. (z : ℕ) → AllByRecursion (IsOnUsed o (uses o allowed (need z))) (events_on z (bend_output o table channel es)))
+BentIsOnTheRow = OfBent (λ o allowed table es need channel. (z : ℕ) → AllByRecursion (IsOnUsed o (uses o allowed (need z)))
+    (events_on z (bend_output o table channel es)))
 
 -- A channel of the used row that no run holds at the next event is in the state from which a run that begins there is brought, what is
 -- selected aside: what its last run's pair needed right after the last event at which it was held. `i` is its place of the row.
 abbrev pub PortsAreLeft : Type 0
-PortsAreLeft = OfBent (λ o allowed table es need channel. (z instant : ℕ) (row : ℕ → ℕ) → IsBendPlan o allowed table es z (need z) instant row (channel z) → (k i : ℕ) → k ≤ length es → i < need z →
+PortsAreLeft = OfBent (λ o allowed table es need channel. (z instant : ℕ) (row : ℕ → ℕ) →
+    IsBendPlan o allowed table es z (need z) instant row (channel z) → (k i : ℕ) → k ≤ length es → i < need z →
     (let runs = runs_on o table es channel z in let c = get_or (used_row o allowed (need z)) i 0 in
     NoneHeld runs k c → IsSameAside (channel_at (both_at o table runs (of_port z es) k).out c) (from_state o table (port_at es z) row i k).own))

@@ -53,7 +53,8 @@ pub record IsMatched (port : ℕ) (o : Options) (table : Targets) (place : Pair 
 -- two notes of a part that sound have neither the same key nor the same target
 pub record AreTwo (o : Options) (table : Targets) (a b : Note) : Type 0 where
   pub key : sounds a ≡ true → sounds b ≡ true → is_part o a.channel ≡ true → a.channel ≡ b.channel → nat_eq a.key b.key ≡ false
-  pub target : sounds a ≡ true → sounds b ≡ true → is_part o a.channel ≡ true → a.channel ≡ b.channel → is_same_target (target_of o table a) (target_of o table b) ≡ false
+  pub target : sounds a ≡ true → sounds b ≡ true → is_part o a.channel ≡ true → a.channel ≡ b.channel → is_same_target (target_of o table a)
+      (target_of o table b) ≡ false
 
 abbrev pub AreApart : Options → Targets → List Note → Type 0
 AreApart o table [] = Unit {0}
@@ -65,17 +66,20 @@ IsAmong port ps part (Some t) = Has ps (pair_with port part t)
 IsAmong port ps part None = Unit {0}
 
 abbrev pub SoundAmong : ℕ → Options → Targets → List Pair → List Note → Type 0
-SoundAmong port o table ps ns = AllByRecursion (λ n. is_part o n.channel ≡ true → sounds n ≡ true → IsAmong port ps n.channel (target_of o table n)) ns
+SoundAmong port o table ps ns = AllByRecursion (λ n. is_part o n.channel ≡ true → sounds n ≡ true →
+    IsAmong port ps n.channel (target_of o table n)) ns
 
 -- ---- what is given of one event
 
 -- whether a message begins a note of this pair
 abbrev pub Begins : ℕ → Options → Targets → ℕ → MidiWhat → Pair → Type 0
-Begins port o table t (Says (NoteOn c k (suc v))) p = (is_part o c ≡ true) × ((x : BendTarget) × (bend_target_if o.range (table k t) ≡ Some x) × (p ≡ pair_with port c x))
+Begins port o table t (Says (NoteOn c k (suc v))) p = (is_part o c ≡ true) × ((x : BendTarget) × (bend_target_if o.range (table k t) ≡ Some x) ×
+    (p ≡ pair_with port c x))
 Begins port o table t _ p = ⊥
 
 -- The event is valid and has no fault; `used` says which channels are used.
-pub record IsGiven (Good : State → Type 0) (port : ℕ) (o : Options) (table : Targets) (used : ℕ → Bool) (k : Moment) (before : Music) (e : MidiEvent) : Type 0 where
+pub record IsGiven (Good : State → Type 0) (port : ℕ) (o : Options) (table : Targets) (used : ℕ → Bool) (k : Moment) (before : Music)
+    (e : MidiEvent) : Type 0 where
   pub valid : IsValidEvent e
   pub faultless : kind_in port o table e.tick before (step before e) false k.is e.what ≡ None
   -- the pairs that sound before the event hold their channels at it, and what sounds after it is there then
@@ -109,7 +113,8 @@ pub record AreUsed (o : Options) (used : ℕ → Bool) : Type 0 where
 
 -- The output follows the source: their notes are matched one by one; each used channel is in the state in which it was left, what
 -- is selected aside; and the channel of each pair that is there was left at what the pair needs.
-pub record Follows (Good : State → Type 0) (port : ℕ) (o : Options) (table : Targets) (used : ℕ → Bool) (place : Pair → ℕ) (there : List Pair) (b : Both) : Type 0 where
+pub record Follows (Good : State → Type 0) (port : ℕ) (o : Options) (table : Targets) (used : ℕ → Bool) (place : Pair → ℕ) (there : List Pair)
+    (b : Both) : Type 0 where
   pub notes : Pairwise (IsMatched port o table place) b.source.notes b.out.notes
   pub states : (c : ℕ) → used c ≡ true → IsSameAside (channel_at b.out c) (b.left c)
   pub at_wanted : (p : Pair) → Has there p → b.left (place p) ≡ (wanted o table b.source p).own

@@ -46,7 +46,8 @@ BeginsIf port o table (Some e) p = Begins port o table e.tick e.what p
 BeginsIf port o table None p = ⊥
 
 -- What is given of a plan up to the last position. The port's events are valid and have no fault.
-pub record IsPlanned (Good : State → Type 0) (o : Options) (table : Targets) (used : ℕ → Bool) (plan : PortRuns) (ns : List Numbered) (last : ℕ) : Type 0 where
+pub record IsPlanned (Good : State → Type 0) (o : Options) (table : Targets) (used : ℕ → Bool) (plan : PortRuns) (ns : List Numbered)
+    (last : ℕ) : Type 0 where
   pub valid : (k : ℕ) (e : MidiEvent) → k < last → port_event ns (suc k) ≡ Some e → IsValidEvent e
   pub faultless : (k : ℕ) (e : MidiEvent) → k < last → port_event ns (suc k) ≡ Some e →
       kind_in plan.number o table e.tick (source_at ns k) (source_at ns (suc k)) false (plan.pairs (suc k)) e.what ≡ None
@@ -57,7 +58,8 @@ pub record IsPlanned (Good : State → Type 0) (o : Options) (table : Targets) (
   -- what holds a channel at an event was there; what is there held its channel, or the event begins a note of it
   pub once : (k : ℕ) → k < last → IsDistinct is_same_pair (plan.held (suc k))
   pub was_there : (k : ℕ) (p : Pair) → k < last → Has (plan.held (suc k)) p → Has (plan.pairs k) p
-  pub from : (k : ℕ) (p : Pair) → k < last → Has (plan.pairs (suc k)) p → is_member is_same_pair (plan.held (suc k)) p ≡ false → BeginsIf plan.number o table (port_event ns (suc k)) p
+  pub from : (k : ℕ) (p : Pair) → k < last → Has (plan.pairs (suc k)) p → is_member is_same_pair (plan.held (suc k)) p ≡ false →
+      BeginsIf plan.number o table (port_event ns (suc k)) p
   -- a run keeps its channel; at a position different pairs have different channels; all are used ones, of parts
   pub kept : (k : ℕ) (p : Pair) → k < last → Has (plan.pairs k) p → Has (plan.pairs (suc k)) p → plan.channel (suc k) p ≡ plan.channel k p
   pub apart : (k : ℕ) (p q : Pair) → k ≤ last → Has (plan.pairs k) p → Has (plan.pairs k) q → plan.channel k p ≡ plan.channel k q → p ≡ q
@@ -75,7 +77,8 @@ block_if port o table k b None = []
 
 abbrev pub blocks_to : Options → Targets → PortRuns → List Numbered → ℕ → List MidiEvent
 blocks_to o table plan ns zero = []
-blocks_to o table plan ns (suc k) = blocks_to o table plan ns k ++ block_if plan.number o table (moment plan k) (both_at o table plan ns k) (port_event ns (suc k))
+blocks_to o table plan ns (suc k) = blocks_to o table plan ns k ++ block_if plan.number o table (moment plan k) (both_at o table plan ns k)
+    (port_event ns (suc k))
 
 abbrev pub up_to_position : ℕ → List Numbered → List Numbered
 up_to_position k ns = filter (λ (n : Numbered). nat_le n.position k) ns

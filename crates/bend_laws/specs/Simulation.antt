@@ -34,7 +34,8 @@ on_target port place c (Some t) = place (pair_with port c t) ∷ []
 on_target port place c None = []
 
 abbrev pub channel_begun : ℕ → Options → Targets → (Pair → ℕ) → ℕ → MidiWhat → List ℕ
-channel_begun port o table place t (Says (NoteOn c j (suc v))) = if is_part o c then on_target port place c (bend_target_if o.range (table j t)) else []
+channel_begun port o table place t (Says (NoteOn c j (suc v))) =
+    if is_part o c then on_target port place c (bend_target_if o.range (table j t)) else []
 channel_begun port o table place t _ = []
 
 abbrev pub channel_if : ℕ → Options → Targets → (Pair → ℕ) → Option MidiEvent → List ℕ
@@ -44,7 +45,8 @@ channel_if port o table place None = []
 -- those of all retuned notes up to a position, in the order of their note ons
 abbrev pub planned_channels : Options → Targets → PortRuns → List Numbered → ℕ → List ℕ
 planned_channels o table plan ns zero = []
-planned_channels o table plan ns (suc k) = planned_channels o table plan ns k ++ channel_if plan.number o table (plan.channel (suc k)) (port_event ns (suc k))
+planned_channels o table plan ns (suc k) = planned_channels o table plan ns k ++ channel_if plan.number o table (plan.channel (suc k))
+    (port_event ns (suc k))
 
 abbrev pub IsFree : PortRuns → ℕ → ℕ → Type 0
 IsFree plan k c = (p : Pair) → Has (plan.pairs k) p → plan.channel k p ≢ c
@@ -57,4 +59,5 @@ pub record PlaysAt (o : Options) (table : Targets) (used : ℕ → Bool) (plan :
   pub channels : map (λ (n : Note). n.channel) (retuned o b.out.notes) ≡ planned_channels o table plan ns k
   pub there : (p : Pair) → Has (plan.pairs k) p → IsState (state_at b.out (plan.channel k p)) (wanted o table b.source p)
   pub silent : (c : ℕ) → used c ≡ true → IsFree plan k c → AllByRecursion (λ (n : Note). n.channel ≡ c → sounds n ≡ false) b.out.notes
-  pub left : (c : ℕ) → used c ≡ true → IsFree plan k c → IsState (state_at b.out c) (let s : State = record { own = b.left c; keys = replicate 128 0 } in s)
+  pub left : (c : ℕ) → used c ≡ true → IsFree plan k c → IsState (state_at b.out c) (let s : State =
+      record { own = b.left c; keys = replicate 128 0 } in s)

@@ -60,7 +60,8 @@ returns c =
   } in
   record {
     ports = λ o allowed table es need channel b z k low. port_plays laws facts o allowed table es need channel b z k low;
-    source = λ o allowed table es need channel b z k. source_is_played o table (runs_on o table es channel z) (of_port z es) k (timely_port facts.timed o allowed table es need channel b z).rising;
+    source = λ o allowed table es need channel b z k. source_is_played o table (runs_on o table es channel z)
+        (of_port z es) k (timely_port facts.timed o allowed table es need channel b z).rising;
     out = λ o allowed table es need channel b z k. port_blocks facts o allowed table es need channel b z k;
     same = λ o allowed table es need channel b scaling tuned. same_file music facts c.outputs_apart.ensures.bend o allowed table es need channel b scaling tuned;
     playable = λ o allowed table es need channel b tracks playable. file_playable laws facts c.outputs_apart.ensures.bend o allowed table es need channel b tracks playable;
