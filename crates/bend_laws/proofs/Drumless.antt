@@ -20,7 +20,8 @@ use Rattle.retune_model.specs.Ports.{Numbered, unnumbered}
 use Rattle.channel_model.specs.BendOutput.{PortRuns}
 use Rattle.bend_laws.specs.Moments.{port_block, moment, port_output}
 use Rattle.bend_laws.specs.Follows.{AreUsed}
-use Rattle.bend_laws.specs.Positions.{port_event, both_at, block_if, blocks_to, IsPlanned}
+use Rattle.bend_laws.specs.Positions.{port_event, both_at}
+use Rattle.bend_laws.proofs.Planning.{block_if, blocks_to, IsPlanned}
 use Rattle.bend_laws.proofs.Ticks.{AreTimely}
 use Rattle.bend_laws.proofs.Lists.{all_append}
 use Rattle.bend_laws.proofs.Playing.{saying}

@@ -20,7 +20,8 @@ use Rattle.channel_model.specs.Laws.{BentPorts}
 use Rattle.channel_model.specs.BendOutput.{PortRuns, runs_on, bend_output}
 use Rattle.bend_laws.specs.Moments.{port_output}
 use Rattle.bend_laws.specs.Follows.{AreUsed}
-use Rattle.bend_laws.specs.Positions.{both_at, IsPlanned, up_to_position}
+use Rattle.bend_laws.specs.Positions.{both_at, up_to_position}
+use Rattle.bend_laws.proofs.Planning.{IsPlanned}
 use Rattle.bend_laws.specs.Simulation.{PlaysAt}
 use Rattle.bend_laws.proofs.Ticks.{AreTimely}
 use Rattle.bend_laws.specs.Bent.{uses, IsBent, IsTuned, IsOnUsed, NoneHeld}

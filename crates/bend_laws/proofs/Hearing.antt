@@ -28,7 +28,8 @@ use Rattle.channel_model.specs.BendOutput.{pair_with, PortRuns}
 use Rattle.bend_laws.specs.Moments.{Both, moment, port_output}
 use Rattle.bend_laws.specs.Brought.{IsSameAside}
 use Rattle.bend_laws.specs.Follows.{Has, IsPlayedBy, IsAmong, SoundAmong, IsGiven, AreUsed, Follows}
-use Rattle.bend_laws.specs.Positions.{port_event, source_next, source_at, both_at, IsPlanned}
+use Rattle.bend_laws.specs.Positions.{port_event, both_at}
+use Rattle.bend_laws.proofs.Planning.{source_next, source_at, IsPlanned}
 use Rattle.bend_laws.specs.Simulation.{retuned, PlaysAt}
 use Rattle.bend_laws.proofs.Ticks.{AreTimely, IsSetAlike, IsUntuned}
 use Rattle.bend_laws.proofs.Lists.{pair_weaker, pair_along}

@@ -15,7 +15,8 @@ use Rattle.channel_model.specs.Choice.{wanted, on_place, pair_on, last_or, last_
 use Rattle.channel_model.specs.BendOutput.{PortRuns}
 use Rattle.bend_laws.specs.Moments.{left_by, left_after, Both, begins_here, moment}
 use Rattle.bend_laws.specs.Follows.{Has, AreUsed, Follows}
-use Rattle.bend_laws.specs.Positions.{port_event, source_next, source_at, both_next, both_at, IsPlanned}
+use Rattle.bend_laws.specs.Positions.{port_event, both_next, both_at}
+use Rattle.bend_laws.proofs.Planning.{source_next, source_at, IsPlanned}
 use Rattle.bend_laws.specs.Bent.{NoneHeld}
 use Rattle.bend_laws.proofs.Given.{Laws}
 use Rattle.bend_laws.proofs.Stepping.{Found, found, not_found, BeginsAt, beginning}

@@ -27,6 +27,7 @@ pub mod Passing
 pub mod Pitching
 pub mod Placing
 pub mod Planned
+pub mod Planning
 pub mod Playing
 pub mod Ported
 pub mod Releasing

@@ -12,7 +12,7 @@ use Rattle.channel_model.specs.BendOutput.{PortRuns}
 use Rattle.state_laws.specs.HeardLaws.{KeepsTheTuning}
 use Rattle.bend_laws.specs.Moments.{port_output}
 use Rattle.bend_laws.specs.Follows.{AreUsed}
-use Rattle.bend_laws.specs.Positions.{IsPlanned}
+use Rattle.bend_laws.proofs.Planning.{IsPlanned}
 use Rattle.bend_laws.proofs.Ticks.{AreTimely}
 use Rattle.bend_laws.proofs.Given.{Laws}
 use Rattle.bend_laws.proofs.Bridge.{ReceiversStay}

@@ -27,7 +27,8 @@ use Rattle.channel_model.specs.BendOutput.{pair_with, PortRuns}
 use Rattle.state_laws.specs.HeardLaws.{KeepsTheTuning}
 use Rattle.bend_laws.specs.Moments.{Moment, Both, setup, strikes, part_causes, port_block, moment, port_output}
 use Rattle.bend_laws.specs.Follows.{IsGiven, AreUsed, Follows}
-use Rattle.bend_laws.specs.Positions.{port_event, both_next, both_at, block_if, blocks_to, IsPlanned, up_to_position}
+use Rattle.bend_laws.specs.Positions.{port_event, both_next, both_at, up_to_position}
+use Rattle.bend_laws.proofs.Planning.{block_if, blocks_to, IsPlanned}
 use Rattle.bend_laws.specs.Simulation.{retuned}
 use Rattle.bend_laws.proofs.Ticks.{AreTimely}
 use Rattle.bend_laws.proofs.Lists.{map_append, pair_append}

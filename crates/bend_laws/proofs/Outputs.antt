@@ -9,7 +9,8 @@ use Rattle.retune_model.specs.Faults.{Targets}
 use Rattle.retune_model.specs.Ports.{Numbered, music_at, Ascend}
 use Rattle.channel_model.specs.BendOutput.{PortRuns}
 use Rattle.bend_laws.specs.Moments.{Moment, Both, port_block, next_both, moment, moment_at, port_output}
-use Rattle.bend_laws.specs.Positions.{port_event, source_next, source_at, both_next, both_at, block_if, blocks_to, up_to_position}
+use Rattle.bend_laws.specs.Positions.{port_event, both_next, both_at, up_to_position}
+use Rattle.bend_laws.proofs.Planning.{source_next, source_at, block_if, blocks_to}
 use Rattle.bend_laws.proofs.Lists.{map_append}
 use Rattle.bend_laws.proofs.Playing.{play_append}
 use Rattle.bend_laws.proofs.Simulates.{source_is}

@@ -29,7 +29,8 @@ use Rattle.channel_model.specs.Laws.{ShortestIsFree}
 use Rattle.channel_model.specs.BendOutput.{pair_with, PortRuns, runs_on}
 use Rattle.state_laws.specs.StateLaws.{StaysWellFormedWith}
 use Rattle.bend_laws.specs.Follows.{Has, IsAmong, SoundAmong, Begins}
-use Rattle.bend_laws.specs.Positions.{port_event, source_at, BeginsIf, IsPlanned}
+use Rattle.bend_laws.specs.Positions.{port_event}
+use Rattle.bend_laws.proofs.Planning.{source_at, BeginsIf, IsPlanned}
 use Rattle.bend_laws.proofs.Ticks.{AreTimely}
 use Rattle.bend_laws.specs.Bent.{uses, IsBentPort, IsBent}
 use Rattle.bend_laws.proofs.Equal.{same_pair}

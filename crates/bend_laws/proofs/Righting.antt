@@ -24,7 +24,8 @@ use Rattle.bend_laws.specs.Brought.{IsReached}
 use Rattle.bend_laws.proofs.Brought.{BringReaches}
 use Rattle.bend_laws.specs.Bent.{IsOnUsed}
 use Rattle.bend_laws.specs.Follows.{Has, IsAmong, IsGiven, AreUsed, Follows}
-use Rattle.bend_laws.specs.Positions.{port_event, both_at, block_if, blocks_to, IsPlanned, up_to_position}
+use Rattle.bend_laws.specs.Positions.{port_event, both_at, up_to_position}
+use Rattle.bend_laws.proofs.Planning.{block_if, blocks_to, IsPlanned}
 use Rattle.bend_laws.proofs.Ticks.{AreTimely}
 use Rattle.bend_laws.proofs.Lists.{all_weaker, all_append, all_mapped, all_both}
 use Rattle.bend_laws.proofs.Holding.{held_all}

@@ -19,7 +19,8 @@ use Rattle.channel_model.specs.BendOutput.{pair_with, PortRuns}
 use Rattle.bend_laws.specs.Moments.{Moment, Both, moment}
 use Rattle.bend_laws.specs.Brought.{IsSameAside}
 use Rattle.bend_laws.specs.Follows.{Has, IsPlayedBy, IsMatched, IsAmong, SoundAmong, IsGiven, AreUsed, Follows}
-use Rattle.bend_laws.specs.Positions.{port_event, both_next, both_at, IsPlanned}
+use Rattle.bend_laws.specs.Positions.{port_event, both_next, both_at}
+use Rattle.bend_laws.proofs.Planning.{IsPlanned}
 use Rattle.bend_laws.specs.Simulation.{channel_if, planned_channels, PlaysAt}
 use Rattle.bend_laws.proofs.Lists.{pair_along, pair_second}
 use Rattle.bend_laws.proofs.Matching.{output_sounds}

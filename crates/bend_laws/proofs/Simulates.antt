@@ -14,7 +14,8 @@ use Rattle.channel_model.specs.Choice.{wanted}
 use Rattle.channel_model.specs.BendOutput.{PortRuns}
 use Rattle.bend_laws.specs.Moments.{Moment, Both, nothing_yet, moment}
 use Rattle.bend_laws.specs.Follows.{Has, SoundAmong, IsGiven, AreUsed, Follows}
-use Rattle.bend_laws.specs.Positions.{port_event, source_next, source_at, both_next, both_at, BeginsIf, IsPlanned}
+use Rattle.bend_laws.specs.Positions.{port_event, both_next, both_at}
+use Rattle.bend_laws.proofs.Planning.{source_next, source_at, BeginsIf, IsPlanned}
 use Rattle.bend_laws.proofs.Given.{Laws}
 use Rattle.bend_laws.proofs.Altered.{same_aside, all_default}
 use Rattle.bend_laws.proofs.Stepping.{Quiet, moved_notes}

@@ -24,7 +24,8 @@ use Rattle.channel_model.specs.BendOutput.{pair_with, placed_at, PortRuns}
 use Rattle.bend_laws.specs.Moments.{Both, port_causes, port_block, moment, moment_at, port_output}
 use Rattle.bend_laws.specs.Brought.{IsSameAside}
 use Rattle.bend_laws.specs.Follows.{Has, IsPlayedBy, IsAmong, SoundAmong, AreUsed, Follows}
-use Rattle.bend_laws.specs.Positions.{blocks_to, both_at, IsPlanned, up_to_position}
+use Rattle.bend_laws.specs.Positions.{both_at, up_to_position}
+use Rattle.bend_laws.proofs.Planning.{blocks_to, IsPlanned}
 use Rattle.bend_laws.specs.Simulation.{retuned, PlaysAt}
 use Rattle.bend_laws.proofs.Ticks.{AreTimely, IsSetAlike}
 use Rattle.bend_laws.proofs.Equal.{own_governor}

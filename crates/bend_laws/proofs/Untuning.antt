@@ -31,7 +31,8 @@ use Rattle.bend_laws.proofs.Brought.{brought_on, IsBroughtTo}
 use Rattle.mt_base.specs.Valid.{IsValidMsg}
 use Rattle.midi_model.specs.MusicLaws.{IsSettled}
 use Rattle.bend_laws.specs.Follows.{Has, IsGiven, AreUsed, Follows}
-use Rattle.bend_laws.specs.Positions.{port_event, both_at, block_if, blocks_to, IsPlanned}
+use Rattle.bend_laws.specs.Positions.{port_event, both_at}
+use Rattle.bend_laws.proofs.Planning.{block_if, blocks_to, IsPlanned}
 use Rattle.bend_laws.proofs.Ticks.{IsUntuned, AreTimely}
 use Rattle.bend_laws.proofs.Lists.{all_weaker, all_always, all_both}
 use Rattle.bend_laws.proofs.Holding.{OnOwnChannels, held_all, held_own}

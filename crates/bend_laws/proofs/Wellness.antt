@@ -20,7 +20,8 @@ use Rattle.retune_model.specs.Ports.{Numbered}
 use Rattle.channel_model.specs.Choice.{wanted, wanted_keys, key_set, has_pair, bend_value}
 use Rattle.state_laws.specs.StateLaws.{StaysWellFormedWith}
 use Rattle.bend_laws.specs.Brought.{IsReached}
-use Rattle.bend_laws.specs.Positions.{port_event, source_next, source_at}
+use Rattle.bend_laws.specs.Positions.{port_event}
+use Rattle.bend_laws.proofs.Planning.{source_next, source_at}
 use Rattle.bend_laws.proofs.Lists.{all_weaker, all_append, all_both, all_mapped}
 use Rattle.bend_laws.proofs.Playing.{reached_play}
 use Rattle.bend_laws.proofs.Bringing.{wanted_wide}

@@ -1,4 +1,4 @@
--- The events of one port at the positions of its file, and what is given of a plan.
+-- The events of one port at the positions of its file, and the musics there.
 use Rattle.std.specs.Prelude.{◌≡◌, ◌<◌, ◌≤◌, ◌++◌, ℕ, zero, suc, List, [], ◌∷◌, Bool, true, false, nat_eq, nat_le, filter, if◌then◌else◌, Option, Some, None}
 use Rattle.std.specs.List.{IsDistinct}
 use Rattle.std.specs.Set.{is_member}
@@ -22,15 +22,6 @@ abbrev pub port_event : List Numbered → ℕ → Option MidiEvent
 port_event [] k = None
 port_event (n ∷ ns) k = if nat_eq n.position k then Some n.event else port_event ns k
 
--- the source's music at a position
-abbrev pub source_next : Music → Option MidiEvent → Music
-source_next m (Some e) = step m e
-source_next m None = m
-
-abbrev pub source_at : List Numbered → ℕ → Music
-source_at ns zero = quiet
-source_at ns (suc k) = source_next (source_at ns k) (port_event ns (suc k))
-
 -- both musics at a position: an event of another port changes nothing
 abbrev pub both_next : ℕ → Options → Targets → Moment → Both → Option MidiEvent → Both
 both_next port o table k b (Some e) = next_both port o table k b e
@@ -39,46 +30,6 @@ both_next port o table k b None = b
 abbrev pub both_at : Options → Targets → PortRuns → List Numbered → ℕ → Both
 both_at o table plan ns zero = nothing_yet
 both_at o table plan ns (suc k) = both_next plan.number o table (moment plan k) (both_at o table plan ns k) (port_event ns (suc k))
-
--- whether the event begins a note of this pair
-abbrev pub BeginsIf : ℕ → Options → Targets → Option MidiEvent → Pair → Type 0
-BeginsIf port o table (Some e) p = Begins port o table e.tick e.what p
-BeginsIf port o table None p = ⊥
-
--- What is given of a plan up to the last position. The port's events are valid and have no fault.
-pub record IsPlanned (Good : State → Type 0) (o : Options) (table : Targets) (used : ℕ → Bool) (plan : PortRuns) (ns : List Numbered)
-    (last : ℕ) : Type 0 where
-  pub valid : (k : ℕ) (e : MidiEvent) → k < last → port_event ns (suc k) ≡ Some e → IsValidEvent e
-  pub faultless : (k : ℕ) (e : MidiEvent) → k < last → port_event ns (suc k) ≡ Some e →
-      kind_in plan.number o table e.tick (source_at ns k) (source_at ns (suc k)) false (plan.pairs (suc k)) e.what ≡ None
-  pub start : plan.pairs 0 ≡ []
-  -- what sounds at a position is there, and holds its channel at the next event
-  pub there : (k : ℕ) → k ≤ last → SoundAmong plan.number o table (plan.pairs k) (source_at ns k).notes
-  pub held : (k : ℕ) → k < last → SoundAmong plan.number o table (plan.held (suc k)) (source_at ns k).notes
-  -- what holds a channel at an event was there; what is there held its channel, or the event begins a note of it
-  pub once : (k : ℕ) → k < last → IsDistinct is_same_pair (plan.held (suc k))
-  pub was_there : (k : ℕ) (p : Pair) → k < last → Has (plan.held (suc k)) p → Has (plan.pairs k) p
-  pub from : (k : ℕ) (p : Pair) → k < last → Has (plan.pairs (suc k)) p → is_member is_same_pair (plan.held (suc k)) p ≡ false →
-      BeginsIf plan.number o table (port_event ns (suc k)) p
-  -- a run keeps its channel; at a position different pairs have different channels; all are used ones, of parts
-  pub kept : (k : ℕ) (p : Pair) → k < last → Has (plan.pairs k) p → Has (plan.pairs (suc k)) p → plan.channel (suc k) p ≡ plan.channel k p
-  pub apart : (k : ℕ) (p q : Pair) → k ≤ last → Has (plan.pairs k) p → Has (plan.pairs k) q → plan.channel k p ≡ plan.channel k q → p ≡ q
-  pub used_at : (k : ℕ) (p : Pair) → k ≤ last → Has (plan.pairs k) p → used (plan.channel k p) ≡ true
-  pub parts : (k : ℕ) (p : Pair) → k ≤ last → Has (plan.pairs k) p → is_part o p.part.channel ≡ true
-  pub ports : (k : ℕ) (p : Pair) → k ≤ last → Has (plan.pairs k) p → p.part.port ≡ plan.number
-  -- what a part's channel needs can be brought to
-  pub good : (k : ℕ) (p : Pair) → k ≤ last → Good (wanted o table (source_at ns k) p)
-  pub reset : (k : ℕ) (e : MidiEvent) → k < last → port_event ns (suc k) ≡ Some e → doing e.what ≡ Resets → plan.pairs (suc k) ≡ []
-
--- the blocks up to a position, one after the other
-abbrev pub block_if : ℕ → Options → Targets → Moment → Both → Option MidiEvent → List MidiEvent
-block_if port o table k b (Some e) = port_block port o table k b.source b.out e
-block_if port o table k b None = []
-
-abbrev pub blocks_to : Options → Targets → PortRuns → List Numbered → ℕ → List MidiEvent
-blocks_to o table plan ns zero = []
-blocks_to o table plan ns (suc k) = blocks_to o table plan ns k ++ block_if plan.number o table (moment plan k) (both_at o table plan ns k)
-    (port_event ns (suc k))
 
 abbrev pub up_to_position : ℕ → List Numbered → List Numbered
 up_to_position k ns = filter (λ (n : Numbered). nat_le n.position k) ns
