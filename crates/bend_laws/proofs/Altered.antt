@@ -35,7 +35,7 @@ pub record StillAlike (place : ℕ) (b : Note) (k l : Bool) (p q : ℕ) : Type 0
 pub played_altered : (port : ℕ) (o : Options) (table : Targets) (was is : Pair → ℕ) (a b : Note) (r s : Option (ℕ × ℕ)) (k l : Bool) (p q : ℕ)
     (e f : Option ℕ) → (h : IsPlayedBy port o table was a b) → s ≡ r → f ≡ e →
     (not (is_some e) ≡ true → StillAlike (is (pair_with port a.channel h.target)) b k l p q) → IsPlayedBy port o table is (altered a r k p e)
-        (altered b s l q f)
+    (altered b s l q f)
 played_altered port o table was is a b r s k l p q e f h release ended alike = record {
   target = h.target;
   aim = h.aim;
@@ -70,9 +70,9 @@ pub played_ended : (port : ℕ) (o : Options) (table : Targets) (was is : Pair �
     IsPlayedBy port o table is (ending t a) (ending t b)
 played_ended port o table was is t a b h =
     subst (λ x. IsPlayedBy port o table is x (ending t b)) (sym (ending_form t a))
-        (subst (λ x. IsPlayedBy port o table is (record a { ended = end_or t a.ended }) x) (sym (ending_form t b))
+    (subst (λ x. IsPlayedBy port o table is (record a { ended = end_or t a.ended }) x) (sym (ending_form t b))
     (played_altered port o table was is a b a.release b.release a.captured b.captured a.pressure b.pressure (end_or t a.ended)
-        (end_or t b.ended) h h.release (ap (end_or t) h.ended) (λ g. absurd (never_sounds t a.ended g))))
+    (end_or t b.ended) h h.release (ap (end_or t) h.ended) (λ g. absurd (never_sounds t a.ended g))))
 
 pub ending_channel : (t : ℕ) (n : Note) → (ending t n).channel ≡ n.channel
 ending_channel t n = ap (λ (x : Note). x.channel) (ending_form t n)
@@ -118,13 +118,13 @@ reset_block port o table k before out t track (MetaOf kind bytes) h = refl
 pub reset_follows : (Good : State → Type 0) → Laws Good → (port : ℕ) (o : Options) (table : Targets) (used : ℕ → Bool) (k : Moment) (b : Both)
     (t track : ℕ) (w : MidiWhat) → IsPassed w → resets (doing w) ≡ true →
     Follows Good port o table used k.old k.was b → IsGiven Good port o table used k b.source (port_event t track w) →
-        Follows Good port o table used k.new k.is (next_both port o table k b (port_event t track w))
+    Follows Good port o table used k.new k.is (next_both port o table k b (port_event t track w))
 reset_follows Good laws port o table used k b t track w passed resets_now follows sound =
     let e : MidiEvent = port_event t track w in
     let is : doing w ≡ Resets = is_resets (doing w) resets_now in
     let after : step b.source e ≡ reset t b.source = ap (λ d. advance t d b.source) is in
     let out : play b.out (port_block port o table k b.source b.out e) ≡ reset t b.out = ap (play b.out)
-        (reset_block port o table k b.source b.out t track w passed) ∙ ap (λ d. advance t d b.out) is in
+    (reset_block port o table k b.source b.out t track w passed) ∙ ap (λ d. advance t d b.out) is in
     let left : ℕ → Channel = λ c. default_channel in
     let none : (p : Pair) → Has k.is p → ⊥ = λ p i. nothing_there k p (sound.reset is) i in
     let x : Both = record { source = reset t b.source; out = reset t b.out; left = left } in
@@ -142,6 +142,6 @@ reset_follows Good laws port o table used k b t track w passed resets_now follow
     } in
     let both : Music → Music → Bool → Both = λ m y r. record { source = m; out = y; left = left_after o table k m r b.left } in
     subst (λ r. Follows Good port o table used k.new k.is (both (step b.source e) (play b.out (port_block port o table k b.source b.out e)) r))
-        (sym resets_now)
+    (sym resets_now)
     (subst (λ m. Follows Good port o table used k.new k.is (both m (play b.out (port_block port o table k b.source b.out e)) true)) (sym after)
     (subst (λ y. Follows Good port o table used k.new k.is (both (reset t b.source) y true)) (sym out) done))

@@ -52,7 +52,7 @@ pub record Strike (port : ℕ) (o : Options) (table : Targets) (k : Moment) (t c
 abbrev pub Held_note : ℕ → Options → Targets → Moment → ℕ → ℕ → ℕ → BendTarget → Note → Type 0
 Held_note port o table k t c j x a = ((is_part o a.channel ≡ true → sounds a ≡ true → IsAmong port k.holds a.channel (target_of o table a))
     × (is_part o (cut_off t c j a).channel ≡ true → sounds (cut_off t c j a) ≡ true →
-        IsAmong port k.is (cut_off t c j a).channel (target_of o table (cut_off t c j a)))) × IsAside o table c j x a
+    IsAmong port k.is (cut_off t c j a).channel (target_of o table (cut_off t c j a)))) × IsAside o table c j x a
 
 abbrev Seen : ℕ → Options → Targets → Moment → ℕ → ℕ → ℕ → BendTarget → Note → Note → Type 0
 Seen port o table k t c j x a b = IsMatched port o table k.old a b × Held_note port o table k t c j x a
@@ -68,7 +68,7 @@ staying : (port : ℕ) (o : Options) (table : Targets) (k : Moment) (t c j : ℕ
 staying port o table k t c j x a b g h part s not =
     subst (IsAmong port k.is a.channel) h.aim
     (subst (λ (y : Note). is_part o y.channel ≡ true → sounds y ≡ true → IsAmong port k.is y.channel (target_of o table y))
-        (cut_not t c j a not) g.0.1 part s)
+    (cut_not t c j a not) g.0.1 part s)
 
 -- the same key, the same pair
 struck_pair : (port : ℕ) (o : Options) (table : Targets) (k : Moment) (t c j : ℕ) (x : BendTarget) (a b : Note) →
@@ -76,7 +76,7 @@ struck_pair : (port : ℕ) (o : Options) (table : Targets) (k : Moment) (t c j :
     (h.target ≡ x)
 struck_pair port o table k t c j x a b g h s at =
     let same : is_same_target (Some h.target) (Some x) ≡ true = ap (λ u. is_same_target u (Some x)) (sym h.aim) ∙ g.1.same s (at_channel c j a at)
-        (eq-eqb a.key j (at_key c j a at)) in
+    (eq-eqb a.key j (at_key c j a at)) in
     (at_channel c j a at, target_eq h.target x (target_key h.target x same) (target_steps h.target x same))
 
 -- the note's channel is the new note's exactly where its pair is
@@ -88,7 +88,7 @@ on_new port o table k t c j x w a b g h part s on = elim (cases_Bool (is_at c j 
   | inr e ↦ (let p : Pair = pair_with port a.channel h.target in
       let there : Has k.is p = staying port o table k t c j x a b g h part s e in
       w.apart p (pair_with port c x) there w.there (w.kept p (w.was p (holding port o table k t c j x a b g h part s)) there
-          ∙ sym (h.sounding s).channel ∙ on))
+      ∙ sym (h.sounding s).channel ∙ on))
 ]
 
 hit_same : (port : ℕ) (o : Options) (table : Targets) (k : Moment) (t c j : ℕ) (x : BendTarget) → Strike port o table k t c j x → (a b : Note) →
@@ -104,12 +104,12 @@ hit_same port o table k t c j x w a b g h part s = elim (cases_Bool (is_at c j a
       (eq-eqb b.key x.key (h.key ∙ ap (λ (u : BendTarget). u.key) two.1)) ∙ sym e)
   | inr e ↦ false_from_ne_true (is_at (k.new (pair_with port c x)) x.key b) (λ at.
       let same : pair_with port a.channel h.target ≡ pair_with port c x =
-          on_new port o table k t c j x w a b g h part s (at_channel (k.new (pair_with port c x)) x.key b at) in
+      on_new port o table k t c j x w a b g h part s (at_channel (k.new (pair_with port c x)) x.key b at) in
       let channel : a.channel ≡ c = ap (λ (q : Pair). q.part.channel) same in
       let key : nat_eq a.key j ≡ false = ap (λ q. q && nat_eq a.key j) (sym (eq-eqb a.channel c channel)) ∙ e in
       both_ways (is_same_target (target_of o table a) (Some x)) (g.1.other s channel key)
       (ap (λ u. is_same_target u (Some x)) h.aim ∙ same_target h.target x (sym h.key ∙ at_key (k.new (pair_with port c x)) x.key b at)
-          (ap (λ (q : Pair). q.steps) same))) ∙ sym e
+      (ap (λ (q : Pair). q.steps) same))) ∙ sym e
 ]
 
 -- ---- the notes
@@ -125,8 +125,12 @@ moved_played port o table was is a b h e = record {
   voice = h.voice;
   release = h.release;
   ended = h.ended;
-  sounding = λ s. (let y : SoundsAlike (was (pair_with port a.channel h.target)) a b = h.sounding s in record { channel = y.channel
-      ∙ sym (e s); captured = y.captured; pressure = y.pressure });
+  sounding = λ s. (let y : SoundsAlike (was (pair_with port a.channel h.target)) a b = h.sounding s in record {
+    channel = y.channel
+        ∙ sym (e s);
+    captured = y.captured;
+    pressure = y.pressure;
+  });
 }
 
 cut_played : (port : ℕ) (o : Options) (table : Targets) (k : Moment) (t c j : ℕ) (x : BendTarget) → Strike port o table k t c j x → (a b : Note) →
@@ -135,16 +139,16 @@ cut_played : (port : ℕ) (o : Options) (table : Targets) (k : Moment) (t c j : 
 cut_played port o table k t c j x w a b g h part = elim (cases_Bool (sounds a)) [
   | inr s ↦ subst (λ y. IsPlayedBy port o table k.new y (cut_off t d x.key b)) (sym (cut_silent t c j a s))
       (subst (IsPlayedBy port o table k.new a) (sym (cut_silent t d x.key b (output_sounds port o table k.old a b h ∙ s)))
-          (moved_played port o table k.old k.new a b h (λ q. absurd (both_ways (sounds a) s q))))
+      (moved_played port o table k.old k.new a b h (λ q. absurd (both_ways (sounds a) s q))))
   | inl s ↦ elim (cases_Bool (is_at c j a)) [
     | inl e ↦ subst (λ y. IsPlayedBy port o table k.new y (cut_off t d x.key b)) (sym (cut_here t c j a e))
         (subst (IsPlayedBy port o table k.new (ending t a)) (sym (cut_here t d x.key b (hit_same port o table k t c j x w a b g h part s ∙ e)))
-            (played_ended port o table k.old k.new t a b h))
+        (played_ended port o table k.old k.new t a b h))
     | inr e ↦ subst (λ y. IsPlayedBy port o table k.new y (cut_off t d x.key b)) (sym (cut_not t c j a e))
         (subst (IsPlayedBy port o table k.new a) (sym (cut_not t d x.key b (hit_same port o table k t c j x w a b g h part s ∙ e)))
         (moved_played port o table k.old k.new a b h (λ q. w.kept (pair_with port a.channel h.target)
-            (w.was (pair_with port a.channel h.target) (holding port o table k t c j x a b g h part s))
-            (staying port o table k t c j x a b g h part s e))))
+        (w.was (pair_with port a.channel h.target) (holding port o table k t c j x a b g h part s))
+        (staying port o table k t c j x a b g h part s e))))
   ]
 ]
   where
@@ -180,14 +184,14 @@ silent_on port o table k t c j x w used new a b (m, g) on = false_from_ne_true (
     let p : Pair = pair_with port a.channel h.target in
     let same : p ≡ pair_with port c x = on_new port o table k t c j x w a b g h part sa on in
     both_ways (is_member is_same_pair k.was (pair_with port c x)) new (subst (Has k.was) same
-        (w.was p (holding port o table k t c j x a b g h part sa))))
+    (w.was p (holding port o table k t c j x a b g h part sa))))
 
 ready : (Good : State → Type 0) → Laws Good → (port : ℕ) (o : Options) (table : Targets) (used : ℕ → Bool) → AreUsed o used → (k : Moment)
     (b : Both) (e : MidiEvent) (t c j : ℕ) (x : BendTarget) → Strike port o table k t c j x →
     Follows Good port o table used k.old k.was b → IsGiven Good port o table used k b.source e →
-        ((d : ℕ) → channel_at (step b.source e) d ≡ channel_at b.source d) → Pairwise (Seen port o table k t c j x) b.source.notes b.out.notes →
+    ((d : ℕ) → channel_at (step b.source e) d ≡ channel_at b.source d) → Pairwise (Seen port o table k t c j x) b.source.notes b.out.notes →
     (r : Bool) → is_member is_same_pair k.was (pair_with port c x) ≡ r → IsReady o table k (step b.source e) b.out (pair_with port c x)
-        (play b.out (saying e (setup o table k (step b.source e) b.out (pair_with port c x) r)))
+    (play b.out (saying e (setup o table k (step b.source e) b.out (pair_with port c x) r)))
 ready Good laws port o table used row k b e t c j x w follows sound same seen true was =
     let p : Pair = pair_with port c x in
     let new : k.new p ≡ k.old p = w.kept p was w.there in
@@ -195,7 +199,7 @@ ready Good laws port o table used row k b e t c j x w follows sound same seen tr
       notes = refl;
       here = subst (λ d. IsSameAside (channel_at b.out d) (wanted o table (step b.source e) p).own) (sym new)
           (subst (IsSameAside (channel_at b.out (k.old p))) (sym (same_own o table b.source (step b.source e) p (same p.part.channel)))
-              (held_state Good port o table used k b e follows sound p was));
+          (held_state Good port o table used k b e follows sound p was));
       others = λ d h. refl;
       same = λ h d. refl;
       zones = follows.out_zones;
@@ -212,13 +216,13 @@ ready Good laws port o table used row k b e t c j x w follows sound same seen fa
     let fit : KeysFit o out.notes = keys_fit port o table k.old b.source.notes out.notes follows.notes in
     let to : IsBroughtTo d e.tick want out (play out (saying e ms)) =
     laws.bringing.reaches out e d want follows.out_zones follows.out_reached (row.channel d u)
-        (all_weaker (λ n. is_part o n.channel ≡ true → n.key < 128) (λ n. n.channel ≡ d → n.key < 128)
-        (λ n f i. f (ap (is_part o) i ∙ row.retuned d u)) out.notes fit) (sound.good p) in
+    (all_weaker (λ n. is_part o n.channel ≡ true → n.key < 128) (λ n. n.channel ≡ d → n.key < 128)
+    (λ n f i. f (ap (is_part o) i ∙ row.retuned d u)) out.notes fit) (sound.good p) in
     let silent : AllByRecursion (λ n. n.channel ≡ d → sounds n ≡ false) out.notes =
     pair_second (Seen port o table k t c j x) (λ n. n.channel ≡ d → sounds n ≡ false)
-        (silent_on port o table k t c j x w (row.retuned d u) was) b.source.notes out.notes seen in
+    (silent_on port o table k t c j x w (row.retuned d u) was) b.source.notes out.notes seen in
     let kept : AllByRecursion (λ n. brought_on d e.tick (channel_at out d) want n ≡ n) out.notes =
-        all_weaker (λ n. n.channel ≡ d → sounds n ≡ false) (λ n. brought_on d e.tick (channel_at out d) want n ≡ n)
+    all_weaker (λ n. n.channel ≡ d → sounds n ≡ false) (λ n. brought_on d e.tick (channel_at out d) want n ≡ n)
     (λ n f. elim (cases_eq n.channel d) [
       | inl i ↦ on_here d e.tick (channel_at out d) want n i ∙ brought_silent e.tick (channel_at out d) want n (f i)
       | inr i ↦ on_elsewhere d e.tick (channel_at out d) want n i
@@ -247,7 +251,7 @@ begin_stepped : (Good : State → Type 0) → Laws Good → (port : ℕ) (o : Op
     (b : Both) (t track c j v : ℕ) → is_part o c ≡ true →
     Follows Good port o table used k.old k.was b → IsGiven Good port o table used k b.source (said_at t track (NoteOn c j (suc v))) →
     Stepped port o table used k b (step b.source (said_at t track (NoteOn c j (suc v))))
-        (play b.out (port_block port o table k b.source b.out (said_at t track (NoteOn c j (suc v)))))
+    (play b.out (port_block port o table k b.source b.out (said_at t track (NoteOn c j (suc v)))))
 begin_stepped Good laws port o table used row k b t track c j v part follows sound =
     let msg : Msg = NoteOn c j (suc v) in
     let e : MidiEvent = said_at t track msg in
@@ -273,12 +277,12 @@ begin_stepped Good laws port o table used row k b t track c j v part follows sou
       apart = sound.apart_is;
     } in
     let aside : AllByRecursion (IsAside o table c j x) src.notes =
-        all_aside o table t c j v x src.notes row.route part target.1 fit.unison fit.restrike in
+    all_aside o table t c j v x src.notes row.route part target.1 fit.unison fit.restrike in
     let cut_later : Note → Type 0 = λ a. later (cut_off t c j a) in
     let seen : Pairwise (Seen port o table k t c j x) src.notes out.notes =
     pair_along (IsMatched port o table k.old) (Held_note port o table k t c j x) src.notes out.notes follows.notes
     (all_both (λ a. among a × cut_later a) (IsAside o table c j x) src.notes (all_both among cut_later src.notes sound.held
-        (front_of later (cut_off t c j) src.notes (new_note src t c j (suc v) ∷ []) there)) aside) in
+    (front_of later (cut_off t c j) src.notes (new_note src t c j (suc v) ∷ []) there)) aside) in
     let was : Bool = is_member is_same_pair k.was p in
     let ms : List Msg = setup o table k after out p was in
     let m : Music = play out (saying e ms) in
@@ -286,7 +290,7 @@ begin_stepped Good laws port o table used row k b t track c j v part follows sou
     let y : Music = struck m t d x.key (suc v) in
     let played : play out (port_block port o table k src out e) ≡ y =
     ap (play out) (part_block port o table k src out t track msg (ms ++ NoteOn d x.key (suc v) ∷ []) part
-        (ap (strikes port o table k after out c (suc v)) target.1))
+    (ap (strikes port o table k after out c (suc v)) target.1))
     ∙ play_saying out e ms (NoteOn d x.key (suc v) ∷ []) ∙ strikes_note m t d x.key v r.zones (settled_reached laws.settle m r.reached) in
     let u : used d ≡ true = sound.used_is p w.there in
     let new : IsMatched port o table k.new (new_note src t c j (suc v)) (new_note m t d x.key (suc v)) = record {
@@ -305,18 +309,18 @@ begin_stepped Good laws port o table used row k b t track c j v part follows sou
     } in
     let old : Pairwise (IsMatched port o table k.new) (map (cut_off t c j) src.notes) (map (cut_off t d x.key) out.notes) =
     pair_map (Seen port o table k t c j x) (IsMatched port o table k.new) (cut_off t c j) (cut_off t d x.key)
-        (cut_match port o table k t c j x w) src.notes out.notes seen in
+    (cut_match port o table k t c j x w) src.notes out.notes seen in
     let notes : Pairwise (IsMatched port o table k.new) (struck src t c j (suc v)).notes y.notes =
     pair_append (IsMatched port o table k.new) (map (cut_off t c j) src.notes) (new_note src t c j (suc v) ∷ []) (map (cut_off t d x.key) m.notes)
-        (new_note m t d x.key (suc v) ∷ [])
+    (new_note m t d x.key (suc v) ∷ [])
     (subst (λ ns. Pairwise (IsMatched port o table k.new) (map (cut_off t c j) src.notes) (map (cut_off t d x.key) ns)) (sym r.notes) old)
-        (new, tt) in
+    (new, tt) in
     -- the pair that a run begins with is the note's
     let begins : (q : Pair) → BeginsAt k q → q ≡ p = λ q g.
     (let f : Begins port o table t (Says msg) q = sound.from q g.is (false_from_ne_true (is_member is_same_pair k.holds q)
-        (λ h. both_ways (is_member is_same_pair k.was q) g.new (sound.was_there q h))) in
+    (λ h. both_ways (is_member is_same_pair k.was q) g.new (sound.was_there q h))) in
     let one : f.1.0 ≡ x = (let a : bend_target_if o.range (table j t) ≡ Some f.1.0 = f.1.1 in let z : bend_target_if o.range (table j t) ≡ Some x =
-        target.1 in cc) in
+    target.1 in cc) in
     f.1.2 ∙ ap (pair_with port c) one) in
     let needs : (q : Pair) → (wanted o table after q).own ≡ (wanted o table src q).own = λ q. same_own o table src after q (same q.part.channel) in
     let done : Stepped port o table used k b after y = record {
@@ -327,7 +331,7 @@ begin_stepped Good laws port o table used row k b t track c j v part follows sou
         | inl i ↦ elim (cases_Bool (is_member is_same_pair k.was p)) [
           | inl g ↦ (let z : q ≡ p = sound.apart_was q p (sound.was_there q h) g (i ∙ sound.kept p g w.there) in
               subst (λ f. IsSameAside (channel_at m f) (wanted o table after q).own) (sym i)
-                  (subst (λ f. IsSameAside (channel_at m d) (wanted o table after f).own) (sym z) r.here))
+              (subst (λ f. IsSameAside (channel_at m d) (wanted o table after f).own) (sym z) r.here))
           | inr g ↦ absurd (free p (record { is = w.there; new = g }) (sym i))
         ]
         | inr i ↦ subst (λ f. IsSameAside f (wanted o table after q).own) (sym (r.others (k.old q) i))
@@ -347,15 +351,21 @@ begin_stepped Good laws port o table used row k b t track c j v part follows sou
       out_zones = refl;
       out_reached = subst IsReached (strikes_note m t d x.key v r.zones (settled_reached laws.settle m r.reached))
           (reached_play m (saying e (NoteOn d x.key (suc v) ∷ []))
-          (saying_valid e (NoteOn d x.key (suc v) ∷ []) sound.valid.tick ((omega (arith, row.channel d u),
-              omega (arith, aim_fits o.range (table j t) x target.1), sound.valid.what.2), tt)) r.reached);
+          (saying_valid e (NoteOn d x.key (suc v) ∷ []) sound.valid.tick (
+            (
+              omega (arith, row.channel d u),
+              omega (arith, aim_fits o.range (table j t) x target.1),
+              sound.valid.what.2,
+            ),
+            tt,
+          )) r.reached);
     } in
     subst (Stepped port o table used k b after) (sym played) done
 
 pub begin_follows : (Good : State → Type 0) → Laws Good → (port : ℕ) (o : Options) (table : Targets) (used : ℕ → Bool) → AreUsed o used →
     (k : Moment) (b : Both) (t track c j v : ℕ) → is_part o c ≡ true →
     Follows Good port o table used k.old k.was b → IsGiven Good port o table used k b.source (said_at t track (NoteOn c j (suc v))) →
-        Follows Good port o table used k.new k.is (next_both port o table k b (said_at t track (NoteOn c j (suc v))))
+    Follows Good port o table used k.new k.is (next_both port o table k b (said_at t track (NoteOn c j (suc v))))
 begin_follows Good laws port o table used row k b t track c j v part follows sound =
     follows_next Good port o table used k b (said_at t track (NoteOn c j (suc v))) follows sound refl
-        (begin_stepped Good laws port o table used row k b t track c j v part follows sound)
+    (begin_stepped Good laws port o table used row k b t track c j v part follows sound)

@@ -42,7 +42,7 @@ at_least_one c [] = tt
 at_least_one c (n ∷ ns) = (
   (λ s e. (let here : cond (is_at c n.key n && sounds n) 1 0 + sounding_on c n.key ns ≡ 1 + sounding_on c n.key ns =
       ap (λ b. cond b 1 0 + sounding_on c n.key ns) (and_from (is_at c n.key n) (sounds n)
-          (and_from (nat_eq n.channel c) (nat_eq n.key n.key) (eq-eqb n.channel c e) (eq-eqb n.key n.key refl)) s) in omega (arith, here))),
+      (and_from (nat_eq n.channel c) (nat_eq n.key n.key) (eq-eqb n.channel c e) (eq-eqb n.key n.key refl)) s) in omega (arith, here))),
   all_weaker (λ x. sounds x ≡ true → x.channel ≡ c → 1 ≤ sounding_on c x.key ns) (λ x. sounds x ≡ true → x.channel ≡ c →
       1 ≤ sounding_on c x.key (n ∷ ns))
       (λ x h s e. (let g : 1 ≤ sounding_on c x.key ns = h s e in omega (arith, g))) ns (at_least_one c ns),
@@ -62,12 +62,12 @@ own_pressure c (n ∷ ns) one = (
       (λ x h s e. elim (cases_Bool (is_at c x.key n && sounds n)) [
         | inl b ↦ absurd (let g : 1 ≤ sounding_on c x.key ns = h.0 s e in
             let i : cond (is_at c x.key n && sounds n) 1 0 + sounding_on c x.key ns ≡ 1 + sounding_on c x.key ns =
-                ap (λ q. cond q 1 0 + sounding_on c x.key ns) b in
+            ap (λ q. cond q 1 0 + sounding_on c x.key ns) b in
             let j : sounding_on c x.key (n ∷ ns) ≤ 1 = one x.key in omega (arith, g, i, j))
         | inr b ↦ ap (λ q. cond q n.pressure (key_pressure ns c x.key)) b ∙ h.1 s e
       ]) ns (all_both (λ x. sounds x ≡ true → x.channel ≡ c → 1 ≤ sounding_on c x.key ns)
-          (λ x. sounds x ≡ true → x.channel ≡ c → key_pressure ns c x.key ≡ x.pressure) ns (at_least_one c ns)
-          (own_pressure c ns (λ k. fewer c k n ns (one k)))),
+      (λ x. sounds x ≡ true → x.channel ≡ c → key_pressure ns c x.key ≡ x.pressure) ns (at_least_one c ns)
+      (own_pressure c ns (λ k. fewer c k n ns (one k)))),
 )
 
 -- the list of pressures at a key
@@ -94,7 +94,7 @@ pressing c before after q p = cond ((nat_eq q.channel c && sounds q) && not (nat
 pressed_is : (c : ℕ) (before after : List ℕ) (n : Note) (k : Bool) (e : Option ℕ) → n.channel ≡ c →
     (not (is_some e) ≡ true → n.pressure ≡ get_or before n.key 0) →
     (let q : Note = record n { captured = k; ended = e } in heard.pressed c before after q
-        ≡ record n { captured = k; pressure = pressed after n.key n.pressure e; ended = e })
+    ≡ record n { captured = k; pressure = pressed after n.key n.pressure e; ended = e })
 pressed_is c before after n k (Some x) h g = pick (nat_eq n.channel c)
   where
     pick : (b : Bool) → cond ((b && false) && not (nat_eq (get_or before n.key 0) (get_or after n.key 0)))
@@ -104,12 +104,12 @@ pressed_is c before after n k (Some x) h g = pick (nat_eq n.channel c)
     pick false = refl
 pressed_is c before after n k None h g =
     ap (λ b. cond ((b && true) && not (nat_eq (get_or before n.key 0) (get_or after n.key 0)))
-        (record n { captured = k; pressure = get_or after n.key 0; ended = None }) (record n { captured = k; ended = None })) (eq-eqb n.channel c h)
+    (record n { captured = k; pressure = get_or after n.key 0; ended = None }) (record n { captured = k; ended = None })) (eq-eqb n.channel c h)
     ∙ elim (cases_Bool (nat_eq (get_or before n.key 0) (get_or after n.key 0))) [
       | inl e ↦ ap (λ b. cond (not b) (record n { captured = k; pressure = get_or after n.key 0; ended = None })
           (record n { captured = k; ended = None })) e
           ∙ ap (λ p. let y : Note = record n { captured = k; pressure = p; ended = None } in y)
-              (g refl ∙ eqb-true (get_or before n.key 0) (get_or after n.key 0) e)
+          (g refl ∙ eqb-true (get_or before n.key 0) (get_or after n.key 0) e)
       | inr e ↦ ap (λ b. cond (not b) (record n { captured = k; pressure = get_or after n.key 0; ended = None })
           (record n { captured = k; ended = None })) e
     ]
@@ -123,13 +123,13 @@ one_note : (c t : ℕ) (now w : State) (n : Note) → (sounds n ≡ true → n.c
 one_note c t now w n own = elim (cases_eq n.channel c) [
   | inl h ↦ ap (heard.pressed c now.keys w.keys) (pedalled_is t c now.own w.own n h)
       ∙ pressed_is c now.keys w.keys n (turned_captured (control_of now.own 66) (control_of w.own 66) n.release n.captured n.ended)
-          (end_of t now.own w.own n) h
+      (end_of t now.own w.own n) h
       (λ s. own (sounded t (control_of now.own 66) (control_of w.own 66) (control_of w.own 64) n.release n.captured n.ended s) h)
       ∙ sym (ap (λ b. cond b (brought t now.own w n) n) (eq-eqb n.channel c h))
   | inr h ↦ ap (λ b. heard.pressed c now.keys w.keys (cond b (heard.let_go t (control_of w.own 64)
       (sostenuto no_zones c (control_of now.own 66) (control_of w.own 66) n)) n)) (ne_eqb n.channel c h)
       ∙ ap (λ b. cond ((b && sounds n) && not (nat_eq (get_or now.keys n.key 0) (get_or w.keys n.key 0)))
-          (record n { pressure = get_or w.keys n.key 0 }) n) (ne_eqb n.channel c h)
+      (record n { pressure = get_or w.keys n.key 0 }) n) (ne_eqb n.channel c h)
       ∙ sym (ap (λ b. cond b (brought t now.own w n) n) (ne_eqb n.channel c h))
 ]
 
@@ -164,21 +164,28 @@ bring_reaches settle one stay reach valid plays = record {
       let good : IsWellFormed now = well_reached stay m c r in
       let settled : IsSettled m = settled_reached settle m r in
       let x : Music = play m (heard.events_of e.tick e.track (bring c now w)) in
-      let is : heard.IsBrought e.tick c now w m x = plays m e.tick e.track c now w (record { settled = settled; no_zone = z; channel =
-          omega (arith, low); from = good; to = h; own = refl }) in
+      let is : heard.IsBrought e.tick c now w m x = plays m e.tick e.track c now w (record {
+        settled = settled;
+        no_zone = z;
+        channel =
+            omega (arith, low);
+        from = good;
+        to = h;
+        own = refl;
+      }) in
       let wide : c < length m.channels = (let l : length m.channels ≡ 16 = settled.channels in omega (arith, l, low)) in
       let at : channel_at x c ≡ (apply_all now (bring c now w)).own = ap (λ ss. get_or ss c default_channel) is.channels
-          ∙ get_or-set_same m.channels c (apply_all now (bring c now w)).own default_channel wide in
+      ∙ get_or-set_same m.channels c (apply_all now (bring c now w)).own default_channel wide in
       let own : AllByRecursion (λ n. sounds n ≡ true → n.channel ≡ c → key_pressure m.notes c n.key ≡ n.pressure) m.notes =
       own_pressure c m.notes (λ k. subst (λ (y : Music). sounding_on c k y.notes ≤ 1) (sym r.is) (one r.events c k)) in
       let notes : AllByRecursion (λ n. heard.pressed c now.keys w.keys (heard.pedalled e.tick c now.own w.own n)
-          ≡ brought_on c e.tick now.own w n) m.notes =
+      ≡ brought_on c e.tick now.own w n) m.notes =
       all_weaker (λ n. (sounds n ≡ true → n.channel ≡ c → key_pressure m.notes c n.key ≡ n.pressure) × (n.channel ≡ c → n.key < 128))
-          (λ n. heard.pressed c now.keys w.keys (heard.pedalled e.tick c now.own w.own n) ≡ brought_on c e.tick now.own w n)
+      (λ n. heard.pressed c now.keys w.keys (heard.pedalled e.tick c now.own w.own n) ≡ brought_on c e.tick now.own w n)
       (λ n q. one_note c e.tick now w n (λ s i. sym (pressure_at m.notes c 0 128 n.key (q.1 i) ∙ ap (key_pressure m.notes c)
-          (let u : 0 + n.key ≡ n.key = omega arith in u) ∙ q.0 s i)))
+      (let u : 0 + n.key ≡ n.key = omega arith in u) ∙ q.0 s i)))
       m.notes (all_both (λ n. sounds n ≡ true → n.channel ≡ c → key_pressure m.notes c n.key ≡ n.pressure)
-          (λ n. n.channel ≡ c → n.key < 128) m.notes own keys) in
+      (λ n. n.channel ≡ c → n.key < 128) m.notes own keys) in
       let done : IsBroughtTo c e.tick w m x = record {
         channel = subst (λ s. IsSameAside s w.own) (sym at) (same_aside (apply_all now (bring c now w)) w (reach c now w good h));
         others = λ d i. ap (λ ss. get_or ss d default_channel) is.channels

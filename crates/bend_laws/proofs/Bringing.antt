@@ -52,7 +52,7 @@ wanted_wide o table p [] = refl
 wanted_wide o table p (n ∷ ns) =
     let rest : length (wanted_keys o table p ns) ≡ 128 = wanted_wide o table p ns in
     cond_both (has_pair p n (target_of o table n)) (key_set (wanted_keys o table p ns) (target_of o table n) n.pressure) (wanted_keys o table p ns)
-        (λ ks. length ks ≡ 128)
+    (λ ks. length ks ≡ 128)
     (λ e. wide_if (wanted_keys o table p ns) (target_of o table n) n.pressure rest) (λ e. rest)
 
 -- ---- one channel's note
@@ -81,7 +81,7 @@ pub brought_none : (o : Options) (table : Targets) (after out : Music) (t : ℕ)
 brought_none o table after out t [] n h = refl
 brought_none o table after out t (g ∷ gs) n h =
     ap (brought_by o table after out t gs) (on_elsewhere g.channel t (channel_at out g.channel) (wanted o table after g.pair) n h.0)
-        ∙ brought_none o table after out t gs n h.1
+    ∙ brought_none o table after out t gs n h.1
 
 pub brought_one : (o : Options) (table : Targets) (after out : Music) (t : ℕ) (h : Held) (hs : List Held) (n : Note) → IsIn h hs →
     OnOwnChannels hs → n.channel ≡ h.channel →
@@ -96,7 +96,7 @@ brought_one o table after out t h (g ∷ gs) n (inl same) d e =
 brought_one o table after out t h (g ∷ gs) n (inr i) d e =
     let apart : n.channel ≢ g.channel = λ k. all_at (λ x. x.channel ≢ g.channel) h gs i d.0 (sym e ∙ k) in
     ap (brought_by o table after out t gs) (on_elsewhere g.channel t (channel_at out g.channel) (wanted o table after g.pair) n apart)
-        ∙ brought_one o table after out t h gs n i d.1 e
+    ∙ brought_one o table after out t h gs n i d.1 e
 
 -- ---- all
 
@@ -104,9 +104,15 @@ pub all_brought : (Good : State → Type 0) → BringReaches Good → (o : Optio
     e.tick < 2 ^ 28 → ((p : Pair) → Good (wanted o table after p)) →
     (hs : List Held) → OnOwnChannels hs → AllByRecursion (CanBring o) hs → (m : Music) → m.zones ≡ no_zones → IsReached m → KeysFit o m.notes →
     AllByRecursion (λ h. state_at m h.channel ≡ state_at out h.channel) hs →
-        AreBrought o table after out e.tick hs m (play m (saying e (bring_all o table after out hs)))
-all_brought Good law o table after out e tick good [] d can m z r keys s = record { notes = sym (map_same (λ n. n) (λ n. refl) m.notes); at =
-    tt; others = λ x h. refl; zones = z; reached = r }
+    AreBrought o table after out e.tick hs m (play m (saying e (bring_all o table after out hs)))
+all_brought Good law o table after out e tick good [] d can m z r keys s = record {
+  notes = sym (map_same (λ n. n) (λ n. refl) m.notes);
+  at =
+      tt;
+  others = λ x h. refl;
+  zones = z;
+  reached = r;
+}
 all_brought Good law o table after out e tick good (h ∷ hs) d can m z r keys s =
     let c : ℕ = h.channel in
     let w : State = wanted o table after h.pair in
@@ -115,10 +121,10 @@ all_brought Good law o table after out e tick good (h ∷ hs) d can m z r keys s
     let own : channel_at m c ≡ channel_at out c = ap (λ (q : State). q.own) s.0 in
     let to : IsBroughtTo c e.tick w m x = subst (λ q. IsBroughtTo c e.tick w m (play m (saying e (bring c q w)))) s.0
     (law.reaches m e c w z r can.0.channel (all_weaker (λ n. is_part o n.channel ≡ true → n.key < 128) (λ n. n.channel ≡ c → n.key < 128)
-        (λ n f k. f (ap (is_part o) k ∙ can.0.part)) m.notes keys)
+    (λ n f k. f (ap (is_part o) k ∙ can.0.part)) m.notes keys)
     (good h.pair)) in
     let valid : AllByRecursion IsValidMsg ms = subst (λ q. AllByRecursion IsValidMsg (bring c q w)) s.0
-        (law.valid m c w r can.0.channel (good h.pair)) in
+    (law.valid m c w r can.0.channel (good h.pair)) in
     let f : Note → Note = brought_on c e.tick (channel_at out c) w in
     let notes : x.notes ≡ map f m.notes = to.notes ∙ ap (λ q. map (brought_on c e.tick q w) m.notes) own in
     let rest : AreBrought o table after out e.tick hs x (play x (saying e (bring_all o table after out hs))) =
@@ -126,13 +132,16 @@ all_brought Good law o table after out e tick good (h ∷ hs) d can m z r keys s
     (subst (KeysFit o) (sym notes) (keys_fit_on o c e.tick (channel_at out c) w m.notes keys))
     (all_weaker (λ g. (g.channel ≢ c) × (state_at m g.channel ≡ state_at out g.channel)) (λ g. state_at x g.channel ≡ state_at out g.channel)
     (λ g q. state_kept g.channel m x f (to.others g.channel q.0) notes (on_channel c e.tick (channel_at out c) w)
-        (λ n k. on_elsewhere c e.tick (channel_at out c) w n (λ j. q.0 (sym k ∙ j))) ∙ q.1)
+    (λ n k. on_elsewhere c e.tick (channel_at out c) w n (λ j. q.0 (sym k ∙ j))) ∙ q.1)
     hs (all_both (λ g. g.channel ≢ c) (λ g. state_at m g.channel ≡ state_at out g.channel) hs d.0 s.1)) in
     let y : Music = play x (saying e (bring_all o table after out hs)) in
     let is : AreBrought o table after out e.tick (h ∷ hs) m y = record {
       notes = rest.notes ∙ ap (map (brought_by o table after out e.tick hs)) notes ∙ map_map (brought_by o table after out e.tick hs) f m.notes;
-      at = (subst (λ q. IsSameAside q w.own) (sym (rest.others c (all_weaker (λ g. g.channel ≢ c) (λ g. c ≢ g.channel)
-          (λ g k j. k (sym j)) hs d.0))) to.channel, rest.at);
+      at = (
+        subst (λ q. IsSameAside q w.own) (sym (rest.others c (all_weaker (λ g. g.channel ≢ c) (λ g. c ≢ g.channel)
+            (λ g k j. k (sym j)) hs d.0))) to.channel,
+        rest.at,
+      );
       others = λ q k. rest.others q k.1 ∙ to.others q k.0;
       zones = rest.zones;
       reached = rest.reached;

@@ -2,11 +2,11 @@
 use Rattle.std.specs.Prelude.{◌≡◌, ◌≢◌, ◌<◌, ℕ, List, Bool, true, false, ◌&&◌, not, nat_eq, if◌then◌else◌, Option, Some, None, is_some, map, get_or, length}
 use Rattle.std.specs.List.{AllByRecursion}
 use Rattle.mt_base.specs.Midi.{MidiEvent, Says}
-use Rattle.mt_base.specs.Valid.{IsValidMsg, IsValidEvent}
+use Rattle.mt_base.specs.Valid.{IsValidMsg}
 use Rattle.midi_model.specs.Channel.{Channel, State, control_of}
 use Rattle.midi_model.specs.Zones.{no_zones}
 use Rattle.midi_model.specs.Notes.{Note, is_pedal_down}
-use Rattle.midi_model.specs.Music.{Music, quiet, channel_at, play, state_at}
+use Rattle.midi_model.specs.Music.{Music, channel_at, play, state_at}
 use Rattle.midi_model.specs.Bring.{bring}
 use Rattle.channel_model.specs.BendOutput.{placed_at}
 use Rattle.bend_laws.specs.Brought.{IsSameAside, IsReached}

@@ -100,7 +100,7 @@ pub part_block : (port : ℕ) (o : Options) (table : Targets) (k : Moment) (befo
     port_block port o table k before out (said_at t track msg) ≡ saying (said_at t track msg) ms
 part_block port o table k before out t track msg ms p h =
     ap (λ b. placed_at (said_at t track msg) (cond b (map Says (part_causes port o table k before (step before (said_at t track msg)) out t msg))
-        (Says msg ∷ []))) p ∙ ap (saying (said_at t track msg)) h
+    (Says msg ∷ []))) p ∙ ap (saying (said_at t track msg)) h
 
 none_begins : (port : ℕ) (o : Options) (table : Targets) (t : ℕ) (msg : Msg) → Changes msg → (p : Pair) → Begins port o table t (Says msg) p → ⊥
 none_begins port o table t (NoteOn c k v) h p b = h
@@ -144,18 +144,21 @@ change_stepped Good laws port o table used row k b t track msg brings part follo
     let quiet : Quiet k = quiet_moment Good port o table used k src e sound (none_begins port o table t msg brings) in
     let fit : IsFine port o table src after k.is t msg = fine port o table src after k.is t msg sound.faultless in
     let turns : IsTurnedBy c t src after = message_turns src t msg (is_bringing msg brings) follows.source_zones follows.source_settled
-        (laws.zones o src msg fit.zone) (valid_channel msg sound.valid.what)
+    (laws.zones o src msg fit.zone) (valid_channel msg sound.valid.what)
     (wide_part Good laws.bringing o table src follows.good_source c) in
     let was : (p : Pair) → Has k.holds p → Has k.was p = sound.was_there in
     let used_old : (p : Pair) → Has k.holds p → used (k.old p) ≡ true = λ p h. sound.used_was p (was p h) in
     let own : OnOwnChannels hs = held_own k.old c k.holds sound.once (λ p q h g. sound.apart_was p q (was p h) (was q g)) in
-    let can : AllByRecursion (CanBring o) hs = held_all (CanBring o) k.old c k.holds (λ p h i. record { channel = row.channel (k.old p)
-        (used_old p h); part = row.retuned (k.old p) (used_old p h) }) in
+    let can : AllByRecursion (CanBring o) hs = held_all (CanBring o) k.old c k.holds (λ p h i. record {
+      channel = row.channel (k.old p)
+          (used_old p h);
+      part = row.retuned (k.old p) (used_old p h);
+    }) in
     let x : Music = play out (saying e (bring_all o table after out hs)) in
     let to : AreBrought o table after out t hs out x =
     all_brought Good laws.bringing o table after out e sound.valid.tick sound.good hs own can out follows.out_zones follows.out_reached
-        (keys_fit port o table k.old src.notes out.notes follows.notes) (all_always (λ h. state_at out h.channel ≡ state_at out h.channel)
-        (λ h. refl) hs) in
+    (keys_fit port o table k.old src.notes out.notes follows.notes) (all_always (λ h. state_at out h.channel ≡ state_at out h.channel)
+    (λ h. refl) hs) in
     -- each pair that holds is at what it needed before
     let at : (p : Pair) → Has k.holds p → IsSameAside (channel_at out (k.old p)) (wanted o table src p).own =
     λ p h. subst (IsSameAside (channel_at out (k.old p))) (follows.at_wanted p (was p h)) (follows.states (k.old p) (used_old p h)) in
@@ -167,7 +170,7 @@ change_stepped Good laws port o table used row k b t track msg brings part follo
     } in
     let apart : AreApart o table after.notes = apart_after laws.fade o table src t (Plays msg) (none_begun src t msg brings) follows.apart in
     let notes : Pairwise (IsMatched port o table k.old) after.notes x.notes =
-        notes_turned port o table k c t src after out x around turns apart sound.held to follows.notes in
+    notes_turned port o table k c t src after out x around turns apart sound.held to follows.notes in
     let is : Stepped port o table used k b after x = record {
       notes = moved_notes port o table k after.notes x.notes quiet sound.there notes;
       apart = apart;
@@ -177,7 +180,7 @@ change_stepped Good laws port o table used row k b t track msg brings part follo
             (held_pair k.old p) hs (held_in k.old c k.holds p h i) to.at
         | inr i ↦ subst (λ s. IsSameAside s (wanted o table after p).own)
             (sym (to.others (k.old p) (held_all (λ g. k.old p ≢ g.channel) k.old c k.holds (λ q g j same. i (ap (λ (r : Pair). r.part.channel)
-                (sound.apart_was p q (was p h) (was q g) same) ∙ j)))))
+            (sound.apart_was p q (was p h) (was q g) same) ∙ j)))))
             (subst (IsSameAside (channel_at out (k.old p))) (sym (same_own o table src after p (turns.others p.part.channel i))) (at p h))
       ];
       others = λ d u free none. subst (λ s. IsSameAside s (b.left d))
@@ -189,13 +192,13 @@ change_stepped Good laws port o table used row k b t track msg brings part follo
       out_reached = to.reached;
     } in
     subst (Stepped port o table used k b after) (sym (ap (play out)
-        (part_block port o table k src out t track msg (bring_all o table after out hs) part
-        (causes_bring port o table k src after out t msg brings)))) is
+    (part_block port o table k src out t track msg (bring_all o table after out hs) part
+    (causes_bring port o table k src after out t msg brings)))) is
 
 pub change_follows : (Good : State → Type 0) → Laws Good → (port : ℕ) (o : Options) (table : Targets) (used : ℕ → Bool) → AreUsed o used →
     (k : Moment) (b : Both) (t track : ℕ) (msg : Msg) → Changes msg → is_part o (channel_of msg) ≡ true →
     Follows Good port o table used k.old k.was b → IsGiven Good port o table used k b.source (said_at t track msg) →
-        Follows Good port o table used k.new k.is (next_both port o table k b (said_at t track msg))
+    Follows Good port o table used k.new k.is (next_both port o table k b (said_at t track msg))
 change_follows Good laws port o table used row k b t track msg brings part follows sound =
     follows_next Good port o table used k b (said_at t track msg) follows sound refl
-        (change_stepped Good laws port o table used row k b t track msg brings part follows sound)
+    (change_stepped Good laws port o table used row k b t track msg brings part follows sound)

@@ -65,7 +65,7 @@ none_to : (Good : State → Type 0) → Laws Good → (o : Options) (table : Tar
 none_to Good laws o table used row plan ns last given keep none zero low = tt
 none_to Good laws o table used row plan ns last given keep none (suc k) low =
     all_append (λ e. is_drum_message e.what ≡ false) (blocks_to o table plan ns k) (block_if plan.number o table (moment plan k)
-        (both_at o table plan ns k) (port_event ns (suc k)))
+    (both_at o table plan ns k) (port_event ns (suc k)))
     (none_to Good laws o table used row plan ns last given keep none k (omega (arith, low))) (go (port_event ns (suc k)) refl)
   where
     go : (x : Option MidiEvent) → port_event ns (suc k) ≡ x → NoDrums (block_if plan.number o table (moment plan k) (both_at o table plan ns k) x)
@@ -111,7 +111,7 @@ played_none law m [] h g = g
 played_none law m (e ∷ es) h g =
     played_none law (step m e) es h.1
     (faded_none (m.notes ++ begun_by m e.tick (doing e.what)) (step m e).notes (law m e.tick (doing e.what))
-        (all_append (λ (n : Note). nat_eq n.channel 9 ≡ false) m.notes (begun_by m e.tick (doing e.what)) g (begun_none m e.tick e.what h.0)))
+    (all_append (λ (n : Note). nat_eq n.channel 9 ≡ false) m.notes (begun_by m e.tick (doing e.what)) g (begun_none m e.tick e.what h.0)))
 
 until_none : (t : ℕ) (es : List MidiEvent) → NoDrums es → NoDrums (until t es)
 until_none t [] h = tt
@@ -135,7 +135,7 @@ either_notes : (a b : Bool) (ns : List Note) → NoDrumNotes ns → filter (λ (
 either_notes a b [] h = refl
 either_notes a b (n ∷ ns) h =
     ap (λ x. cond x (n ∷ filter (λ (y : Note). is_retuned a y.channel) ns) (filter (λ (y : Note). is_retuned a y.channel) ns))
-        (either a b n.channel h.0)
+    (either a b n.channel h.0)
     ∙ ap (λ ys. cond (is_retuned b n.channel) (n ∷ ys) ys) (either_notes a b ns h.1)
 
 either_message : (a b : Bool) (msg : Msg) → nat_eq (channel_of msg) 9 ≡ false → begins_note (is_retuned a) (Says msg) ≡ begins_note (is_retuned b)
@@ -175,17 +175,17 @@ either_same law scaling o table a b source out none_source none_out h = record {
   notes = λ t. subst (λ xs. Pairwise (IsSameNote (output_key o table)) xs (retuned_notes (is_retuned b) (at_tick t out)))
       (either_notes a b (at_tick t source).music.notes (tick_none law t source none_source))
       (subst (Pairwise (IsSameNote (output_key o table)) (retuned_notes (is_retuned a) (at_tick t source)))
-          (either_notes a b (at_tick t out).music.notes (tick_none law t out none_out)) (h.notes t));
+      (either_notes a b (at_tick t out).music.notes (tick_none law t out none_out)) (h.notes t));
   sound = λ t.
       let R : Note → Note → Type 0 = λ x y. sounds x ≡ true → SoundsTheSame scaling o (plain_device o) (until t source) (until t out) x y in
       subst (λ xs. Pairwise R xs (retuned_notes (is_retuned b) (at_tick t out)))
-          (either_notes a b (at_tick t source).music.notes (tick_none law t source none_source))
+      (either_notes a b (at_tick t source).music.notes (tick_none law t source none_source))
       (subst (Pairwise R (retuned_notes (is_retuned a) (at_tick t source)))
-          (either_notes a b (at_tick t out).music.notes (tick_none law t out none_out)) (h.sound t));
+      (either_notes a b (at_tick t out).music.notes (tick_none law t out none_out)) (h.sound t));
   beginnings = subst (λ xs. Pairwise (BeginsAlike scaling o (plain_device o)) xs (beginnings (is_retuned b) out))
       (either_beginnings a b [] source none_source)
       (subst (Pairwise (BeginsAlike scaling o (plain_device o)) (beginnings (is_retuned a) source))
-          (either_beginnings a b [] out none_out) h.beginnings);
+      (either_beginnings a b [] out none_out) h.beginnings);
 }
 
 and_true : (a b : Bool) → b ≡ true → (a && b) ≡ a
@@ -199,7 +199,7 @@ and_none false b h = refl
 pub plays_same_music : (Good : State → Type 0) → Laws Good → (scaling : Scaling) (o : Options) (table : Targets) (used : ℕ → Bool) →
     AreUsed o used → (plan : PortRuns) (ns : List Numbered) (last : ℕ) → IsPlanned Good o table used plan ns last → AreTimely ns last →
     AreSame scaling o table o.keep_drums (unnumbered ns) (port_output o table plan quiet quiet ns) →
-        PlaysTheSameMusic scaling o table (plain_device o) (unnumbered ns) (port_output o table plan quiet quiet ns)
+    PlaysTheSameMusic scaling o table (plain_device o) (unnumbered ns) (port_output o table plan quiet quiet ns)
 plays_same_music Good laws scaling o table used row plan ns last given timely h =
     let source : List MidiEvent = unnumbered ns in
     let out : List MidiEvent = port_output o table plan quiet quiet ns in
@@ -210,7 +210,7 @@ plays_same_music Good laws scaling o table used row plan ns last given timely h 
         | inr lost ↦ subst S (sym (and_none o.keep_drums (has_drums source) lost)) h
         | inl keep ↦ either_same laws.fade scaling o table o.keep_drums (keeps_drums o source) source out (none_has source none)
             (subst NoDrums (all_blocks o table plan ns last timely)
-                (none_to Good laws o table used row plan ns last given keep (none_has source none) last (omega arith))) h
+            (none_to Good laws o table used row plan ns last given keep (none_has source none) last (omega arith))) h
       ]
     ] in
     record { notes = is.notes; sound = is.sound; beginnings = is.beginnings }

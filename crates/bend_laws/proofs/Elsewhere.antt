@@ -39,8 +39,11 @@ itself : (c : ℕ) (n : Note) → IsElsewhere c n n
 itself c n = record { stays = λ h. refl; channel = refl }
 
 one_if : (c : ℕ) (b : Bool) (n x : Note) → (n.channel ≢ c → b ≡ false) → x.channel ≡ n.channel → IsElsewhere c n (cond b x n)
-one_if c b n x h g = record { stays = λ e. ap (λ q. cond q x n) (h e); channel = cond_both b x n (λ (y : Note). y.channel ≡ n.channel) (λ e. g)
-    (λ e. refl) }
+one_if c b n x h g = record {
+  stays = λ e. ap (λ q. cond q x n) (h e);
+  channel = cond_both b x n (λ (y : Note). y.channel ≡ n.channel) (λ e. g)
+      (λ e. refl);
+}
 
 then_too : (c : ℕ) (n x y : Note) → IsElsewhere c n x → IsElsewhere c x y → IsElsewhere c n y
 then_too c n x y h k = record { stays = λ e. k.stays (λ i. e (sym h.channel ∙ i)) ∙ h.stays e; channel = k.channel ∙ h.channel }
@@ -100,15 +103,15 @@ turned_else : (m : Music) (t c n v : ℕ) (r : Role) → m.zones ≡ no_zones �
 turned_else m t c n v Stored z = cond_both (nat_eq n 66)
     (map (sostenuto m.zones c (control_of (channel_at m c) 66) v) m.notes) m.notes (AreElsewhere m c [])
     (λ e. mapped m c (sostenuto no_zones c (control_of (channel_at m c) 66) v)
-        (map (sostenuto m.zones c (control_of (channel_at m c) 66) v) m.notes)
-        (ap (λ w. map (sostenuto w c (control_of (channel_at m c) 66) v) m.notes) z) (sostenuto_else c (control_of (channel_at m c) 66) v))
+    (map (sostenuto m.zones c (control_of (channel_at m c) 66) v) m.notes)
+    (ap (λ w. map (sostenuto w c (control_of (channel_at m c) 66) v) m.notes) z) (sostenuto_else c (control_of (channel_at m c) 66) v))
     (λ e. unchanged m c)
 turned_else m t c n v ResetControllers z =
     let x : ℕ = control_of (channel_at m c) 66 in
     mapped m c (λ a. without_pressure c (sostenuto no_zones c x 0 a)) (map (λ a. without_pressure c (sostenuto m.zones c x 0 a)) m.notes)
-        (ap (λ w. map (λ a. without_pressure c (sostenuto w c x 0 a)) m.notes) z)
+    (ap (λ w. map (λ a. without_pressure c (sostenuto w c x 0 a)) m.notes) z)
     (λ a. then_too c a (sostenuto no_zones c x 0 a) (without_pressure c (sostenuto no_zones c x 0 a)) (sostenuto_else c x 0 a)
-        (relax_else c (sostenuto no_zones c x 0 a)))
+    (relax_else c (sostenuto no_zones c x 0 a)))
 turned_else m t c n v AllSoundOff z = mapped m c (end_all t no_zones c) (map (end_all t m.zones c) m.notes)
     (ap (λ w. map (end_all t w c) m.notes) z) (end_else t c)
 turned_else m t c n v AllNotesOff z = mapped m c (release_all t no_zones c) (map (release_all t m.zones c) m.notes)
@@ -167,7 +170,7 @@ goes_on m t msg z s h =
       notes = ap (λ w. map (settle_note ss w t) (notes_after m t msg)) z ∙ ap (map (settle_note ss no_zones t)) k.notes
           ∙ map_append (settle_note ss no_zones t) (map k.turn m.notes) new
           ∙ ap (λ ns. ns ++ map (settle_note ss no_zones t) new) (map_map (settle_note ss no_zones t) k.turn m.notes)
-              ∙ ap (λ ns. map (λ n. settle_note ss no_zones t (k.turn n)) m.notes ++ ns) (new_settles ss m t msg);
+          ∙ ap (λ ns. map (λ n. settle_note ss no_zones t (k.turn n)) m.notes ++ ns) (new_settles ss m t msg);
       each = all_weaker (Stays m.channels) (λ n. IsElsewhere c n (settle_note ss no_zones t (k.turn n)))
           (λ n g. record {
             stays = λ e. ap (settle_note ss no_zones t) ((k.each n).stays e) ∙ settle_elsewhere m.channels c own t n e g;
@@ -184,7 +187,7 @@ pub drum_block : (port : ℕ) (o : Options) (table : Targets) (k : Moment) (befo
     is_part o (channel_of msg) ≡ false → port_block port o table k before out (said_at t track msg) ≡ said_at t track msg ∷ []
 drum_block port o table k before out t track msg h =
     ap (λ b. placed_at (said_at t track msg) (cond b (map Says (part_causes port o table k before (step before (said_at t track msg)) out t msg))
-        (Says msg ∷ []))) h
+    (Says msg ∷ []))) h
 
 no_entry : (o : Options) (m : Music) (msg : Msg) → is_part o (channel_of msg) ≡ false → is_zone_entry o m msg ≡ false
 no_entry o m (NoteOn c k v) h = refl
@@ -260,28 +263,28 @@ drum_matched port o table place c f g a b h ((m, i), j) = record {
 pub drum_follows : (Good : State → Type 0) → Laws Good → (port : ℕ) (o : Options) (table : Targets) (used : ℕ → Bool) → AreUsed o used →
     (k : Moment) (b : Both) (t track : ℕ) (msg : Msg) → is_part o (channel_of msg) ≡ false →
     Follows Good port o table used k.old k.was b → IsGiven Good port o table used k b.source (said_at t track msg) →
-        Follows Good port o table used k.new k.is (next_both port o table k b (said_at t track msg))
+    Follows Good port o table used k.new k.is (next_both port o table k b (said_at t track msg))
 drum_follows Good laws port o table used row k b t track msg drum follows sound =
     let e : MidiEvent = said_at t track msg in
     let c : ℕ = channel_of msg in
     let after : Music = step b.source e in
     let out : Music = advance t (Plays msg) b.out in
     let s : GoesOn b.source c (begun_by b.source t (Plays msg)) after =
-        goes_on b.source t msg follows.source_zones follows.source_settled (laws.zones o b.source msg (no_entry o b.source msg drum)) in
+    goes_on b.source t msg follows.source_zones follows.source_settled (laws.zones o b.source msg (no_entry o b.source msg drum)) in
     let x : GoesOn b.out c (begun_by b.out t (Plays msg)) out =
-        goes_on b.out t msg follows.out_zones (settled_reached laws.settle b.out follows.out_reached)
-        (laws.zones o b.out msg (no_entry o b.out msg drum)) in
+    goes_on b.out t msg follows.out_zones (settled_reached laws.settle b.out follows.out_reached)
+    (laws.zones o b.out msg (no_entry o b.out msg drum)) in
     let not_drum : (d : ℕ) → is_part o d ≡ true → d ≢ c = λ d p i. both_ways (is_part o c) drum (ap (is_part o) (sym i) ∙ p) in
     let old : Pairwise (IsMatched port o table k.old) (map s.turn b.source.notes) (map x.turn b.out.notes) =
     pair_map (λ a y. (IsMatched port o table k.old a y × IsElsewhere c a (s.turn a)) × IsElsewhere c y (x.turn y))
-        (IsMatched port o table k.old) s.turn x.turn (λ a y q. drum_matched port o table k.old c s.turn x.turn a y drum q) b.source.notes b.out.notes
+    (IsMatched port o table k.old) s.turn x.turn (λ a y q. drum_matched port o table k.old c s.turn x.turn a y drum q) b.source.notes b.out.notes
     (pair_with_second (λ a y. IsMatched port o table k.old a y × IsElsewhere c a (s.turn a))
-        (λ y. IsElsewhere c y (x.turn y)) b.source.notes b.out.notes
+    (λ y. IsElsewhere c y (x.turn y)) b.source.notes b.out.notes
     (pair_along (IsMatched port o table k.old) (λ a. IsElsewhere c a (s.turn a)) b.source.notes b.out.notes follows.notes s.each) x.each) in
     let all : Pairwise (IsMatched port o table k.old) (map s.turn b.source.notes ++ begun_by b.source t (Plays msg))
-        (map x.turn b.out.notes ++ begun_by b.out t (Plays msg)) =
+    (map x.turn b.out.notes ++ begun_by b.out t (Plays msg)) =
     pair_append (IsMatched port o table k.old) (map s.turn b.source.notes) (begun_by b.source t (Plays msg)) (map x.turn b.out.notes)
-        (begun_by b.out t (Plays msg)) old (drum_new port o table k.old b.source b.out t msg drum) in
+    (begun_by b.out t (Plays msg)) old (drum_new port o table k.old b.source b.out t msg drum) in
     let still : StandsStill port o table used k b after out = record {
       notes = subst (λ ns. Pairwise (IsMatched port o table k.old) ns out.notes) (sym s.notes)
           (subst (λ ns. Pairwise (IsMatched port o table k.old) (map s.turn b.source.notes ++ begun_by b.source t (Plays msg)) ns)
@@ -296,8 +299,8 @@ drum_follows Good laws port o table used row k b t track msg drum follows sound 
       out_reached = reached_play b.out (e ∷ []) (sound.valid, tt) follows.out_reached;
     } in
     let same : play b.out (port_block port o table k b.source b.out e) ≡ out = ap (play b.out)
-        (drum_block port o table k b.source b.out t track msg drum) in
+    (drum_block port o table k b.source b.out t track msg drum) in
     follows_next Good port o table used k b e follows sound refl
     (still_stepped Good port o table used k b e (play b.out (port_block port o table k b.source b.out e)) follows sound
-        (quiet_moment Good port o table used k b.source e sound (drum_begins port o table t msg drum))
+    (quiet_moment Good port o table used k b.source e sound (drum_begins port o table t msg drum))
     (subst (StandsStill port o table used k b after) (sym same) still))

@@ -27,7 +27,7 @@ same_pair p q h =
     let e = and_parts (is_same_part p.part q.part) (int_eq p.steps q.steps) h in
     let f = and_parts (nat_eq p.part.port q.part.port) (nat_eq p.part.channel q.part.channel) e.0 in
     ap (λ x. made x p.part.channel p.steps) (eqb-true p.part.port q.part.port f.0) ∙ ap (λ x. made q.part.port x p.steps)
-        (eqb-true p.part.channel q.part.channel f.1)
+    (eqb-true p.part.channel q.part.channel f.1)
     ∙ ap (λ y. made q.part.port q.part.channel y) (same_int p.steps q.steps e.1)
 
 pub part_itself : (p : Part) → is_same_part p p ≡ true

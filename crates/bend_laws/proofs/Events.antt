@@ -84,5 +84,5 @@ what_kept Good laws port o table used row k b t track (MetaOf kind bytes) follow
 pub event_kept : (Good : State → Type 0) → Laws Good → (port : ℕ) (o : Options) (table : Targets) (used : ℕ → Bool) → AreUsed o used → (k : Moment)
     (b : Both) (e : MidiEvent) →
     Follows Good port o table used k.old k.was b → IsGiven Good port o table used k b.source e →
-        Follows Good port o table used k.new k.is (next_both port o table k b e)
+    Follows Good port o table used k.new k.is (next_both port o table k b e)
 event_kept Good laws port o table used row k b e follows sound = what_kept Good laws port o table used row k b e.tick e.track e.what follows sound

@@ -1,5 +1,5 @@
 -- The sentences of a file: those of its ports, and those of all its events.
-use Rattle.std.proofs.Common.{◌≡◌, ◌≤◌, ◌<◌, ℕ, Bool, true, List, refl, ap, sym, ◌∙◌, subst, length, get_or}
+use Rattle.std.proofs.Common.{◌≡◌, ◌≤◌, ◌<◌, ℕ, Bool, List, ap, sym, ◌∙◌, subst, length, get_or}
 use Rattle.std.specs.List.{AllByRecursion}
 use Rattle.mt_base.specs.Midi.{MidiEvent}
 use Rattle.mt_base.specs.Valid.{IsValidEvent}
@@ -27,7 +27,7 @@ use Rattle.bend_laws.proofs.Ticks.{AreTimely}
 use Rattle.bend_laws.specs.Bent.{uses, IsBent, IsTuned, IsOnUsed, NoneHeld}
 use Rattle.bend_laws.proofs.Given.{Laws}
 use Rattle.bend_laws.proofs.Shown.{plays_at}
-use Rattle.bend_laws.proofs.Outputs.{out_is, source_is_played, blocks_are}
+use Rattle.bend_laws.proofs.Outputs.{out_is, blocks_are}
 use Rattle.bend_laws.proofs.Righting.{output_valid, output_used, keeps_all_drums}
 use Rattle.bend_laws.proofs.Musical.{MusicLaws, same_music}
 use Rattle.bend_laws.proofs.Passing.{keeps_all_others}
@@ -35,7 +35,6 @@ use Rattle.bend_laws.proofs.Orderly.{output_playable}
 use Rattle.bend_laws.proofs.Rows.{row_used, lane_used, lane_apart}
 use Rattle.bend_laws.proofs.Placing.{all_of_ports}
 use Rattle.bend_laws.proofs.Ported.{PortFacts, timely_port, planned_port, placed_on}
-use Rattle.bend_laws.proofs.Runs.{HasPlaces}
 use Rattle.bend_laws.proofs.Simulates.{follows_at}
 use Rattle.bend_laws.proofs.Leaving.{IsLane, left_as}
 
@@ -57,7 +56,7 @@ on_port f o allowed table es need channel b z = record {
 pub port_plays : Laws IsWellFormed → PortFacts → (o : Options) (allowed : ℕ → Bool) (table : Targets) (es : List MidiEvent) (need : ℕ → ℕ)
     (channel : ℕ → ℕ → Pair → ℕ) → IsBent o allowed table es need channel → (z k : ℕ) → k ≤ length es →
     (let runs = runs_on o table es channel z in PlaysAt o table (uses o allowed (need z)) runs (of_port z es) k
-        (both_at o table runs (of_port z es) k))
+    (both_at o table runs (of_port z es) k))
 port_plays laws f o allowed table es need channel b z k low =
     let p : OnPort o allowed table es need channel z = on_port f o allowed table es need channel b z in
     plays_at IsWellFormed laws o table (uses o allowed (need z)) p.used (runs_on o table es channel z) (of_port z es) (length es) p.planned k low
@@ -69,7 +68,7 @@ pub port_blocks : PortFacts → (o : Options) (allowed : ℕ → Bool) (table : 
 port_blocks f o allowed table es need channel b z k =
     let runs : PortRuns = runs_on o table es channel z in
     out_is o table runs (of_port z es) k ∙ ap (play quiet)
-        (blocks_are o table runs (of_port z es) k (on_port f o allowed table es need channel b z).timely.rising)
+    (blocks_are o table runs (of_port z es) k (on_port f o allowed table es need channel b z).timely.rising)
 
 -- the output of the file, by its ports
 abbrev written : Options → Targets → (ℕ → ℕ → Pair → ℕ) → List MidiEvent → ℕ → List MidiEvent
@@ -91,7 +90,7 @@ same_file m f ports o allowed table es need channel b scaling tuned =
           let p : OnPort o allowed table es need channel z = on_port f o allowed table es need channel b z in
           subst (KeepsDrums o (events_on z es)) (sym (is z))
           (keeps_all_drums IsWellFormed m.laws o table (uses o allowed (need z)) p.used (runs_on o table es channel z) (of_port z es)
-              (length es) p.planned p.timely));
+          (length es) p.planned p.timely));
     }
 
 pub file_playable : Laws IsWellFormed → PortFacts → BentPorts → (o : Options) (allowed : ℕ → Bool) (table : Targets) (es : List MidiEvent)
@@ -102,9 +101,9 @@ file_playable laws f ports o allowed table es need channel b tracks playable =
     let p : OnPort o allowed table es need channel z = on_port f o allowed table es need channel b z in
     subst (AllByRecursion IsValidEvent) (sym (ports o table channel es z))
     (output_valid IsWellFormed laws o table (uses o allowed (need z)) p.used (runs_on o table es channel z) (of_port z es)
-        (length es) p.planned p.timely)) in
+    (length es) p.planned p.timely)) in
     output_playable tracks o table (runs_on o table es channel) es (all_of_ports IsValidEvent all_zero 0
-        (bend_output o table channel es) valid) playable
+    (bend_output o table channel es) valid) playable
 
 pub file_used : Laws IsWellFormed → PortFacts → BentPorts → (o : Options) (allowed : ℕ → Bool) (table : Targets) (es : List MidiEvent)
     (need : ℕ → ℕ) (channel : ℕ → ℕ → Pair → ℕ) → IsBent o allowed table es need channel →
@@ -113,7 +112,7 @@ file_used laws f ports o allowed table es need channel b z =
     let p : OnPort o allowed table es need channel z = on_port f o allowed table es need channel b z in
     subst (AllByRecursion (IsOnUsed o (uses o allowed (need z)))) (sym (ports o table channel es z))
     (output_used IsWellFormed laws o table (uses o allowed (need z)) p.used (runs_on o table es channel z) (of_port z es)
-        (length es) p.planned p.timely)
+    (length es) p.planned p.timely)
 
 pub port_left : Laws IsWellFormed → PortFacts → (o : Options) (allowed : ℕ → Bool) (table : Targets) (es : List MidiEvent) (need : ℕ → ℕ)
     (channel : ℕ → ℕ → Pair → ℕ) → IsBent o allowed table es need channel →
@@ -134,4 +133,4 @@ port_left laws f o allowed table es need channel b z instant row plan k i low sm
     subst (IsSameAside (channel_at (both_at o table runs (of_port z es) k).out c))
     (left_as IsWellFormed laws o table (uses o allowed n) p.used runs (port_at es z) (length es) p.planned p.timely.rising row i c lane k low free)
     ((follows_at IsWellFormed laws o table (uses o allowed n) p.used runs (of_port z es)
-        (length es) p.planned k low).states c (lane_used o allowed n plan.within i small))
+    (length es) p.planned k low).states c (lane_used o allowed n plan.within i small))

@@ -66,8 +66,11 @@ valid_channel (Bend c v) h = (let l : c ≤ 15 = h.0 in omega (arith, l))
 -- a part's controllers
 pub wide_part : (Good : State → Type 0) → BringReaches Good → (o : Options) (table : Targets) (m : Music) →
     ((p : Pair) → Good (wanted o table m p)) → (c : ℕ) → length (channel_at m c).controls ≡ 120
-wide_part Good law o table m good c = let p : Pair = record { part = record { port = 0; channel = c }; steps =
-    pos 0 } in law.wide (wanted o table m p) (good p)
+wide_part Good law o table m good c = let p : Pair = record {
+  part = record { port = 0; channel = c };
+  steps =
+      pos 0;
+} in law.wide (wanted o table m p) (good p)
 
 -- the output's keys are keys
 key_fits : (port : ℕ) (o : Options) (table : Targets) (place : Pair → ℕ) (a b : Note) → IsMatched port o table place a b →

@@ -69,10 +69,10 @@ pub held_all : (P : Held → Type 0) (place : Pair → ℕ) (part : ℕ) (ps : L
 held_all P place part [] f = tt
 held_all P place part (q ∷ qs) f =
     let rest : AllByRecursion P (held_by place part qs) =
-        held_all P place part qs (λ p m e. f p (or_right (is_same_pair p q) (is_member is_same_pair qs p) m) e) in
+    held_all P place part qs (λ p m e. f p (or_right (is_same_pair p q) (is_member is_same_pair qs p) m) e) in
     cond_both (nat_eq q.part.channel part) (put_held (held_pair place q) (held_by place part qs)) (held_by place part qs) (AllByRecursion P)
     (λ k. all_put P (held_pair place q) (held_by place part qs) (f q (or_left (is_same_pair q q) (is_member is_same_pair qs q) (pair_itself q))
-        (eqb-true q.part.channel part k)) rest)
+    (eqb-true q.part.channel part k)) rest)
     (λ k. rest)
 
 all_member : (P : Pair → Type 0) (ps : List Pair) (p : Pair) → AllByRecursion P ps → Has ps p → P p
@@ -88,12 +88,12 @@ unfolding IsDistinct
 held_own place part [] d f = tt
 held_own place part (q ∷ qs) d f =
     let rest : OnOwnChannels (held_by place part qs) =
-        held_own place part qs d.1 (λ a b h k. f a b (or_right (is_same_pair a q) (is_member is_same_pair qs a) h)
-        (or_right (is_same_pair b q) (is_member is_same_pair qs b) k)) in
+    held_own place part qs d.1 (λ a b h k. f a b (or_right (is_same_pair a q) (is_member is_same_pair qs a) h)
+    (or_right (is_same_pair b q) (is_member is_same_pair qs b) k)) in
     let apart : (p : Pair) → Has qs p → p.part.channel ≡ part → place p ≢ place q =
     λ p h e k. other_pair q p (all_member (λ y. is_same_pair q y ≡ false) qs p d.0 h)
-        (sym (f p q (or_right (is_same_pair p q) (is_member is_same_pair qs p) h) (or_left (is_same_pair q q) (is_member is_same_pair qs q)
-        (pair_itself q)) k)) in
+    (sym (f p q (or_right (is_same_pair p q) (is_member is_same_pair qs p) h) (or_left (is_same_pair q q) (is_member is_same_pair qs q)
+    (pair_itself q)) k)) in
     cond_both (nat_eq q.part.channel part) (put_held (held_pair place q) (held_by place part qs)) (held_by place part qs) OnOwnChannels
     (λ k. own_put (held_pair place q) (held_by place part qs) (held_all (λ g. g.channel ≢ place q) place part qs apart) rest)
     (λ k. rest)

@@ -48,12 +48,12 @@ found_first port o table ns n p s t h =
     let S : List Note = filter (λ x. is_part o x.channel && sounds x) ns in
     let W : List ℕ = wanted_keys o table (pair_with port n.channel t) S in
     let it : (nat_eq n.channel n.channel && int_eq t.steps t.steps) ≡ true = and_from (nat_eq n.channel n.channel) (int_eq t.steps t.steps)
-        (nat_itself n.channel) (int_itself t.steps) in
+    (nat_itself n.channel) (int_itself t.steps) in
     ap (λ b. get_or (wanted_keys o table (pair_with port n.channel t) (cond b (n ∷ S) S)) t.key 0) (and_from (is_part o n.channel) (sounds n) p s)
     ∙ ap (λ x. get_or (cond (has_pair (pair_with port n.channel t) n x) (key_set W x n.pressure) W) t.key 0) h
     ∙ ap (λ b. get_or (cond b (set W t.key n.pressure) W) t.key 0) it
     ∙ get_or-set_same W t.key n.pressure 0 (subst (λ l. t.key < l) (sym (wanted_wide o table (pair_with port n.channel t) S))
-        (aim_fits o.range (table n.key n.onset) t h))
+    (aim_fits o.range (table n.key n.onset) t h))
 
 -- a note before it that has another target
 found_behind : (port : ℕ) (o : Options) (table : Targets) (ns : List Note) (n a : Note) → AreTwo o table n a → Finds port o table ns a →
@@ -65,7 +65,7 @@ found_behind port o table ns n a two f p s t h =
       | inr e ↦ ap (λ b. get_or (wanted_keys o table (pair_with port a.channel t) (cond b (n ∷ S) S)) t.key 0) e ∙ f p s t h
       | inl e ↦ ap (λ b. get_or (wanted_keys o table (pair_with port a.channel t) (cond b (n ∷ S) S)) t.key 0) e
           ∙ passes (target_of o table n) refl (and_parts (is_part o n.channel) (sounds n) e).0 (and_parts (is_part o n.channel) (sounds n) e).1 W
-              ∙ f p s t h
+          ∙ f p s t h
     ]
   where
     apart : (u : BendTarget) → target_of o table n ≡ Some u → is_part o n.channel ≡ true → sounds n ≡ true → n.channel ≡ a.channel →
@@ -80,7 +80,7 @@ found_behind port o table ns n a two f p s t h =
       | inr other ↦ ap (λ b. get_or (cond b (set W u.key n.pressure) W) t.key 0) other
       | inl same ↦ ap (λ b. get_or (cond b (set W u.key n.pressure) W) t.key 0) same
           ∙ get_or-set_other W u.key t.key n.pressure 0 (apart u e q r (eqb-true n.channel a.channel (and_parts (nat_eq n.channel a.channel)
-              (int_eq u.steps t.steps) same).0) (same_int u.steps t.steps (and_parts (nat_eq n.channel a.channel) (int_eq u.steps t.steps) same).1))
+          (int_eq u.steps t.steps) same).0) (same_int u.steps t.steps (and_parts (nat_eq n.channel a.channel) (int_eq u.steps t.steps) same).1))
     ]
 
 pub all_find : (port : ℕ) (o : Options) (table : Targets) (ns : List Note) → AreApart o table ns → AllByRecursion (Finds port o table ns) ns
@@ -124,4 +124,4 @@ pub apart_after : NotesFade → (o : Options) (table : Targets) (m : Music) (t :
     AreApart o table (advance t d m).notes
 apart_after law o table m t d none h =
     apart_fades o table m.notes (advance t d m).notes (subst (λ ns. AllFade ns (advance t d m).notes)
-        (ap (λ x. m.notes ++ x) none ∙ append-nil m.notes) (law m t d)) h
+    (ap (λ x. m.notes ++ x) none ∙ append-nil m.notes) (law m t d)) h

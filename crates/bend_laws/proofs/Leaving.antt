@@ -1,11 +1,11 @@
 -- The state in which a channel was left is what its last run's pair needed right after the last event at which it was held.
-use Rattle.std.proofs.Common.{◌≡◌, ◌≢◌, ◌<◌, ◌≤◌, ◌&&◌, ◌||◌, ℕ, zero, suc, Bool, true, false, cond, List, [], ◌∷◌, Option, Some, None, refl, ap, sym, ◌∙◌, subst, nat_eq, arith, inl, inr}
+use Rattle.std.proofs.Common.{◌≡◌, ◌<◌, ◌≤◌, ◌&&◌, ◌||◌, ℕ, zero, suc, Bool, true, false, cond, List, [], ◌∷◌, Option, Some, None, refl, ap, sym, ◌∙◌, arith, inl, inr}
 use Rattle.std.specs.Set.{is_member}
-use Rattle.std.proofs.lemmas.Bool.{cases_eq, both_ways, false_from_ne_true, eq-eqb, ne_eqb}
+use Rattle.std.proofs.lemmas.Bool.{cases_eq, false_from_ne_true, eq-eqb, ne_eqb}
 use Rattle.mt_base.specs.Midi.{MidiEvent}
 use Rattle.midi_model.specs.Sysex.{doing}
 use Rattle.midi_model.specs.Channel.{Channel, State}
-use Rattle.midi_model.specs.Music.{Music, step}
+use Rattle.midi_model.specs.Music.{step}
 use Rattle.retune_model.specs.Options.{Options}
 use Rattle.retune_model.specs.Faults.{Targets}
 use Rattle.retune_model.specs.Ports.{Numbered, PortEvents, Ascend, music_at, is_reset_at, resets}
@@ -16,7 +16,7 @@ use Rattle.channel_model.specs.BendOutput.{PortRuns}
 use Rattle.bend_laws.specs.Moments.{left_by, left_after, Both, begins_here, moment}
 use Rattle.bend_laws.specs.Follows.{Has, AreUsed, Follows}
 use Rattle.bend_laws.specs.Positions.{port_event, both_next, both_at}
-use Rattle.bend_laws.proofs.Planning.{source_next, source_at, IsPlanned}
+use Rattle.bend_laws.proofs.Planning.{IsPlanned}
 use Rattle.bend_laws.specs.Bent.{NoneHeld}
 use Rattle.bend_laws.proofs.Given.{Laws}
 use Rattle.bend_laws.proofs.Stepping.{Found, found, not_found, BeginsAt, beginning}
@@ -34,7 +34,7 @@ none_resets k [] r j l = refl
 none_resets k (n ∷ ns) r j l =
     let later : k < n.position = r.0 in
     ap (λ b. (b && resets (doing n.event.what)) || is_reset_at ns j) (ne_eqb n.position j (λ e. omega (arith, e, later, l)))
-        ∙ none_resets n.position ns r.1 j (omega (arith, later, l))
+    ∙ none_resets n.position ns r.1 j (omega (arith, later, l))
 
 reset_is : (m : ℕ) (ns : List Numbered) → Ascend m ns → (k : ℕ) → is_reset_at ns k ≡ resets_if (port_event ns k)
 reset_is m [] r k = refl
@@ -69,8 +69,10 @@ pub left_as : (Good : State → Type 0) → Laws Good → (o : Options) (table :
     (both_at o table plan port.events k).left c ≡ (left_state o table port plan.held (last_on (is_reset_at port.events) plan.pairs row i k)).own
 left_as Good laws o table used row_used plan port last given rising row i c lane zero low free = refl
 left_as Good laws o table used row_used plan port last given rising row i c lane (suc k) low free =
-    pick (pair_on at row i (suc k)) refl (λ f. left_as Good laws o table used row_used plan port last given rising row i c lane k (omega (arith,
-        low)) f)
+    pick (pair_on at row i (suc k)) refl (λ f. left_as Good laws o table used row_used plan port last given rising row i c lane k (omega (
+      arith,
+      low,
+    )) f)
   where
     ns : List Numbered
     ns = port.events
@@ -97,12 +99,12 @@ left_as Good laws o table used row_used plan port last given rising row i c lane
     taken : (p : Pair) → pair_on plan.pairs row i (suc k) ≡ Some p → (both_at o table plan port.events (suc k)).left c ≡ left_of (Some (suc k, p))
     taken p h =
         let r : Found (λ q. row (since is_same_pair plan.pairs q (suc k))) i (plan.pairs (suc k)) p =
-            found (λ q. row (since is_same_pair plan.pairs q (suc k))) i (plan.pairs (suc k)) p h in
+        found (λ q. row (since is_same_pair plan.pairs q (suc k))) i (plan.pairs (suc k)) p h in
         let on : plan.channel (suc k) p ≡ c = lane.here (suc k) p low r.there r.on in
         let gone : is_member is_same_pair (plan.held (suc (suc k))) p ≡ false =
-            false_from_ne_true (is_member is_same_pair (plan.held (suc (suc k))) p) (λ m. free p m on) in
+        false_from_ne_true (is_member is_same_pair (plan.held (suc (suc k))) p) (λ m. free p m on) in
         ap (both_at o table plan port.events (suc k)).left (sym on) ∙ (follows (suc k) low).at_wanted p r.there
-            ∙ ap (λ m. (wanted o table m p).own) (src (suc k))
+        ∙ ap (λ m. (wanted o table m p).own) (src (suc k))
         ∙ sym (ap (λ x. (wanted o table (music_at port.events (cond x (suc (suc k)) (suc k))) p).own) gone)
 
     -- none is there, and one held its channel at the event
@@ -119,7 +121,7 @@ left_as Good laws o table used row_used plan port last given rising row i c lane
             (lane.there k p (omega (arith, low)) was on))
         one p was on (Some q) h =
             let g : Found (λ y. row (since is_same_pair plan.pairs y k)) i (plan.pairs k) q =
-                found (λ y. row (since is_same_pair plan.pairs y k)) i (plan.pairs k) q h in
+            found (λ y. row (since is_same_pair plan.pairs y k)) i (plan.pairs k) q h in
             h ∙ ap Some (given.apart k q p (omega (arith, low)) g.there was (lane.here k q (omega (arith, low)) g.there g.on ∙ sym on))
 
     -- no run begins on it
@@ -137,7 +139,7 @@ left_as Good laws o table used row_used plan port last given rising row i c lane
         left_after o table (moment plan k) (step b.source e) false b.left c ≡ left_of before
     stepped h rest e is y g =
         ap (λ x. left_by o table (step b.source e) (b.left c) x (on_place (plan.channel k) c (plan.held (suc k))))
-            (none_begins h (on_place (plan.channel (suc k)) c (begins_here (moment plan k))) refl)
+        (none_begins h (on_place (plan.channel (suc k)) c (begins_here (moment plan k))) refl)
         ∙ by_held y g
       where
         by_held : (y : Option Pair) → on_place (plan.channel k) c (plan.held (suc k)) ≡ y → left_by o table (step b.source e)
@@ -156,7 +158,7 @@ left_as Good laws o table used row_used plan port last given rising row i c lane
         let r : Found (plan.channel k) c (plan.held (suc k)) p = found (plan.channel k) c (plan.held (suc k)) p g in
         ap b.left (sym r.on) ∙ (follows k (omega (arith, low))).at_wanted p (given.was_there k p low r.there)
         ∙ ap (λ m. (wanted o table m p).own) (sym (ap (λ x. (both_next plan.number o table (moment plan k) b x).source) is) ∙ src (suc k))
-            ∙ sym (held_one p r)
+        ∙ sym (held_one p r)
 
     untaken : pair_on plan.pairs row i (suc k) ≡ None → (NoneHeld plan k c → b.left c ≡ left_of before) → (x : Option MidiEvent) →
         port_event port.events (suc k) ≡ x → (r : Bool) → resets_if x ≡ r →
@@ -169,7 +171,7 @@ left_as Good laws o table used row_used plan port last given rising row i c lane
 
     pick : (x : Option Pair) → pair_on plan.pairs row i (suc k) ≡ x → (NoneHeld plan k c → b.left c ≡ left_of before) →
         (both_at o table plan port.events (suc k)).left c ≡ left_of (last_or (suc k) (pair_on plan.pairs row i (suc k))
-            (is_reset_at port.events (suc k)) before)
+        (is_reset_at port.events (suc k)) before)
     pick (Some p) h rest = taken p h ∙ sym (ap (λ x. left_of (last_or (suc k) x (is_reset_at port.events (suc k)) before)) h)
     pick None h rest =
         untaken h rest (port_event port.events (suc k)) refl (is_reset_at port.events (suc k)) (sym (reset_is 0 port.events rising (suc k)))

@@ -35,17 +35,23 @@ lifted t v hit h n = altered n (lifted_release t v hit n.release) n.captured n.p
 
 settled_form : (t h : ℕ) (r : Option (ℕ × ℕ)) (n : Note) (e : Option ℕ) →
     (let y : Note = record n { release = r; ended = e } in cond (is_some r && (not n.captured && not (is_pedal_down h)))
-        (ending t y) y ≡ record n { release = r; ended = over_at t r n.captured h e })
+    (ending t y) y ≡ record n { release = r; ended = over_at t r n.captured h e })
 settled_form t h r n (Some s) = pick (is_some r && (not n.captured && not (is_pedal_down h)))
   where
-    pick : (b : Bool) → cond b (record n { release = r; ended = Some s }) (record n { release = r; ended = Some s }) ≡ record n { release =
-        r; ended = Some s }
+    pick : (b : Bool) → cond b (record n { release = r; ended = Some s }) (record n { release = r; ended = Some s }) ≡ record n {
+      release =
+          r;
+      ended = Some s;
+    }
     pick true = refl
     pick false = refl
 settled_form t h r n None = pick (is_some r && (not n.captured && not (is_pedal_down h)))
   where
-    pick : (b : Bool) → cond b (record n { release = r; ended = Some t }) (record n { release = r; ended = None }) ≡ record n { release =
-        r; ended = cond b (Some t) None }
+    pick : (b : Bool) → cond b (record n { release = r; ended = Some t }) (record n { release = r; ended = None }) ≡ record n {
+      release =
+          r;
+      ended = cond b (Some t) None;
+    }
     pick true = refl
     pick false = refl
 
@@ -74,7 +80,7 @@ pub lifts_all : (ss : List Channel) (t c : ℕ) (n : Note) → settle_note ss no
     ≡ lifted t 64 (nat_eq n.channel c && is_down n) (pedal ss no_zones n) n
 lifts_all ss t c n =
     ap (settle_note ss no_zones t) (ap (λ b. cond b (releasing t 64 n) n) (heard_here c n) ∙ two_tests (nat_eq n.channel c) (is_down n)
-        (record n { release = Some (t, 64) }) n) ∙ lifted_form ss t 64 n (nat_eq n.channel c && is_down n)
+    (record n { release = Some (t, 64) }) n) ∙ lifted_form ss t 64 n (nat_eq n.channel c && is_down n)
 
 -- the hold pedal that a note listens to is that of its own channel
 pub pedal_is : (m : Music) (n : Note) → pedal m.channels no_zones n ≡ control_of (channel_at m n.channel) 64
@@ -102,7 +108,7 @@ pub played_lifted : (port : ℕ) (o : Options) (table : Targets) (place : Pair �
     (lifted t v hits g b)
 played_lifted port o table place t v h g hit hits a b p same pedals =
     let release : lifted_release t v hits b.release ≡ lifted_release t v hit a.release = ap (λ x. lifted_release t v x b.release) same
-        ∙ ap (lifted_release t v hit) p.release in
+    ∙ ap (lifted_release t v hit) p.release in
     let r : Option (ℕ × ℕ) = lifted_release t v hit a.release in
     let s : Option (ℕ × ℕ) = lifted_release t v hits b.release in
     let ended : over_at t s b.captured g b.ended ≡ over_at t r a.captured h a.ended = elim (cases_Bool (sounds a)) [
@@ -110,9 +116,9 @@ played_lifted port o table place t v h g hit hits a b p same pedals =
       | inr i ↦ silent_over t g s b.captured b.ended (ap (λ e. not (is_some e)) p.ended ∙ i) ∙ p.ended ∙ sym (silent_over t h r a.captured a.ended i)
     ] in
     played_altered port o table place place a b r s a.captured b.captured a.pressure b.pressure (over_at t r a.captured h a.ended)
-        (over_at t s b.captured g b.ended) p release ended
+    (over_at t s b.captured g b.ended) p release ended
     (λ i. (let y : SoundsAlike (place (pair_with port a.channel p.target)) a b =
-        p.sounding (sounded_over t h r a.captured a.ended i) in record { on = y.channel; captured = y.captured; pressure = y.pressure }))
+    p.sounding (sounded_over t h r a.captured a.ended i) in record { on = y.channel; captured = y.captured; pressure = y.pressure }))
 
 -- ---- the note whose key is down
 
@@ -158,7 +164,7 @@ tells_behind : (o : Options) (table : Targets) (c j : ℕ) (n a : Note) → is_a
 tells_behind o table c j n a here down two s p t aim = (
   (λ i. absurd (both_ways (nat_eq n.key a.key)
       (two.key (sounds_down n down) s (ap (is_part o) (at_channel c j n here ∙ sym (at_channel c j a i)) ∙ p)
-          (at_channel c j n here ∙ sym (at_channel c j a i)))
+      (at_channel c j n here ∙ sym (at_channel c j a i)))
       (eq-eqb n.key a.key (at_key c j n here ∙ sym (at_key c j a i))))),
   (λ e same. absurd (both_ways (is_same_target (target_of o table n) (target_of o table a))
       (two.target (sounds_down n down) s (ap (is_part o) (at_channel c j n here ∙ sym e) ∙ p) (at_channel c j n here ∙ sym e))
@@ -187,9 +193,11 @@ all_tell o table c j (x ∷ xs) n h e = elim (cases_Bool (is_at c j x && is_down
       (sym i) ∙ e in cc) in
       let two = and_parts (is_at c j x) (is_down x) i in
       let here : is_at c j n ≡ true = ap (is_at c j) (sym same) ∙ two.0 in
-      let down : is_down n ≡ true = ap is_down (sym same) ∙ two.1 in
-      (tells_itself o table c j n x same here, all_weaker (AreTwo o table x) (Tells o table c j n)
-          (λ a w. tells_behind o table c j n a here down (subst (λ y. AreTwo o table y a) same w)) xs h.0))
+      let down : is_down n ≡ true = ap is_down (sym same) ∙ two.1 in (
+        tells_itself o table c j n x same here,
+        all_weaker (AreTwo o table x) (Tells o table c j n)
+            (λ a w. tells_behind o table c j n a here down (subst (λ y. AreTwo o table y a) same w)) xs h.0,
+      ))
   | inr i ↦ (let g : pressed_note c j xs ≡ Some n = ap (λ b. cond b (Some x) (pressed_note c j xs)) (sym i) ∙ e in
       let at = pressed_element (AreTwo o table x) c j xs n h.0 g in
       (tells_before o table c j n x at.1 at.2 at.0, all_tell o table c j xs n h.1 g))
@@ -208,15 +216,23 @@ abbrev resettled : List Channel → ℕ → List Note → Music
 resettled ss t ns = plain ss (map (settle_note ss no_zones t) ns)
 
 raised : (m : Music) (t c j v : ℕ) → m.zones ≡ no_zones →
-    (let x : Music = record { channels = set m.channels c (channel_at m c); zones = m.zones; notes =
-        map (settle_note (set m.channels c (channel_at m c)) m.zones t) (map (release_key t c j v) m.notes) } in x ≡ lifted_music m t c j v)
+    (let x : Music = record {
+      channels = set m.channels c (channel_at m c);
+      zones = m.zones;
+      notes =
+          map (settle_note (set m.channels c (channel_at m c)) m.zones t) (map (release_key t c j v) m.notes);
+    } in x ≡ lifted_music m t c j v)
 raised m t c j v z =
-    ap (λ w. let x : Music = record { channels = set m.channels c (channel_at m c); zones = w; notes =
-        map (settle_note (set m.channels c (channel_at m c)) w t) (map (release_key t c j v) m.notes) } in x) z
+    ap (λ w. let x : Music = record {
+      channels = set m.channels c (channel_at m c);
+      zones = w;
+      notes =
+          map (settle_note (set m.channels c (channel_at m c)) w t) (map (release_key t c j v) m.notes);
+    } in x) z
     ∙ ap (λ ss. resettled ss t (map (release_key t c j v) m.notes)) (set-get_or m.channels c default_channel)
     ∙ ap (plain m.channels) (map_map (settle_note m.channels no_zones t) (release_key t c j v) m.notes
     ∙ map_each (λ n. settle_note m.channels no_zones t (release_key t c j v n)) (λ n. lifted t v (is_at c j n && is_down n)
-        (pedal m.channels no_zones n) n) (lifts_key m.channels t c j v) m.notes)
+    (pedal m.channels no_zones n) n) (lifts_key m.channels t c j v) m.notes)
 
 pub off_lifts : (m : Music) (t c j v : ℕ) → m.zones ≡ no_zones → advance t (Plays (NoteOff c j v)) m ≡ lifted_music m t c j v
 off_lifts m t c j v z = said m t (NoteOff c j v) refl ∙ raised m t c j v z

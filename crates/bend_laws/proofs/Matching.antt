@@ -66,14 +66,14 @@ pub by_silent : (o : Options) (table : Targets) (after out : Music) (t : ℕ) (h
 by_silent o table after out t [] n s = refl
 by_silent o table after out t (h ∷ hs) n s =
     ap (brought_by o table after out t hs) (on_silent h.channel t (channel_at out h.channel) (wanted o table after h.pair) n s)
-        ∙ by_silent o table after out t hs n s
+    ∙ by_silent o table after out t hs n s
 
 pub by_channel : (o : Options) (table : Targets) (after out : Music) (t : ℕ) (hs : List Held) (n : Note) →
     (brought_by o table after out t hs n).channel ≡ n.channel
 by_channel o table after out t [] n = refl
 by_channel o table after out t (h ∷ hs) n =
     by_channel o table after out t hs (brought_on h.channel t (channel_at out h.channel) (wanted o table after h.pair) n)
-        ∙ on_channel h.channel t (channel_at out h.channel) (wanted o table after h.pair) n
+    ∙ on_channel h.channel t (channel_at out h.channel) (wanted o table after h.pair) n
 
 -- ---- both notes
 
@@ -101,7 +101,7 @@ both_turned port o table place t p now after mine w a b h s m i k =
     let z : control_of w.own 64 ≡ control_of after 64 = ap (λ cs. get_or cs 64 0) i in
     let e : end_of t mine w.own b ≡ end_of t now after a =
     ended_alike t (control_of now 66) (control_of after 66) (control_of after 64) (control_of mine 66) (control_of w.own 66)
-        (control_of w.own 64) a.release b.release a.captured b.captured a.ended b.ended x y z h.release alike.captured h.ended in
+    (control_of w.own 64) a.release b.release a.captured b.captured a.ended b.ended x y z h.release alike.captured h.ended in
     record {
       target = h.target;
       aim = h.aim;
@@ -151,7 +151,7 @@ pub record Around (o : Options) (table : Targets) (k : Moment) (c t : ℕ) (src 
 abbrev pub Seen : ℕ → Options → Targets → Moment → ℕ → ℕ → (src after : Music) → (Note → Note) → Note → Note → Type 0
 Seen port o table k c t src after turn a b =
     ((IsMatched port o table k.old a b × (is_part o a.channel ≡ true → sounds a ≡ true → IsAmong port k.holds a.channel (target_of o table a))) ×
-        IsTurned c t (channel_at src c) (channel_at after c) a (turn a))
+    IsTurned c t (channel_at src c) (channel_at after c) a (turn a))
     × Finds port o table after.notes (turn a)
 
 turn_channel : (c t : ℕ) (now after : Channel) (a x : Note) → IsTurned c t now after a x → x.channel ≡ a.channel
@@ -163,7 +163,7 @@ turn_channel c t now after a x h = elim (cases_eq a.channel c) [
 played_turned : (port : ℕ) (o : Options) (table : Targets) (k : Moment) (c t : ℕ) (src after out : Music) → Around o table k c t src after out →
     (turn : Note → Note) (a b : Note) → Seen port o table k c t src after turn a b →
     (h : IsPlayedBy port o table k.old a b) → is_part o a.channel ≡ true → IsPlayedBy port o table k.old (turn a)
-        (brought_by o table after out t (held_by k.old c k.holds) b)
+    (brought_by o table after out t (held_by k.old c k.holds) b)
 played_turned port o table k c t src after out w turn a b seen h part = elim (cases_Bool (sounds a)) [
   | inr s ↦ (let y : Note = brought_by o table after out t (held_by k.old c k.holds) b in
       let same : y ≡ b = by_silent o table after out t (held_by k.old c k.holds) b (output_sounds port o table k.old a b h ∙ s) in
@@ -181,9 +181,9 @@ played_turned port o table k c t src after out w turn a b seen h part = elim (ca
             let finds : Finds port o table after.notes x = subst (Finds port o table after.notes) is seen.1 in
             subst (λ z. IsPlayedBy port o table k.old z (brought_by o table after out t (held_by k.old c k.holds) b)) (sym is)
             (subst (λ z. IsPlayedBy port o table k.old x z) (sym (brought_one o table after out t (held_pair k.old p)
-                (held_by k.old c k.holds) b (held_in k.old c k.holds p holds e) w.own on))
+            (held_by k.old c k.holds) b (held_in k.old c k.holds p holds e) w.own on))
             (both_turned port o table k.old t seen.0.1.pressure (channel_at src c) (channel_at after c) (channel_at out (k.old p))
-                (wanted o table after p) a b h s
+            (wanted o table after p) a b h s
             (w.now p holds ∙ ap (λ d. (channel_at src d).controls) e) (ap (λ d. (channel_at after d).controls) e)
             (λ g. finds part g h.target h.aim))))
         | inr e ↦ subst (λ z. IsPlayedBy port o table k.old z (brought_by o table after out t (held_by k.old c k.holds) b))
@@ -214,24 +214,24 @@ all_unmap P f (n ∷ ns) h = (h.0, all_unmap P f ns h.1)
 pub notes_turned : (port : ℕ) (o : Options) (table : Targets) (k : Moment) (c t : ℕ) (src after out x : Music) →
     Around o table k c t src after out → IsTurnedBy c t src after →
     AreApart o table after.notes → SoundAmong port o table k.holds src.notes → AreBrought o table after out t (held_by k.old c k.holds) out x →
-        Pairwise (IsMatched port o table k.old) src.notes out.notes →
+    Pairwise (IsMatched port o table k.old) src.notes out.notes →
     Pairwise (IsMatched port o table k.old) after.notes x.notes
 notes_turned port o table k c t src after out x w turns apart among to match =
     let among_all : Note → Type 0 = λ a. is_part o a.channel ≡ true → sounds a ≡ true → IsAmong port k.holds a.channel (target_of o table a) in
     let turned_all : Note → Type 0 = λ a. IsTurned c t (channel_at src c) (channel_at after c) a (turns.turn a) in
     let found : Note → Type 0 = λ a. Finds port o table after.notes (turns.turn a) in
     let finds : AllByRecursion found src.notes = all_unmap (Finds port o table after.notes) turns.turn src.notes
-        (subst (AllByRecursion (Finds port o table after.notes)) turns.notes (all_find port o table after.notes apart)) in
+    (subst (AllByRecursion (Finds port o table after.notes)) turns.notes (all_find port o table after.notes apart)) in
     let two : Pairwise (λ a b. IsMatched port o table k.old a b × among_all a) src.notes out.notes =
-        pair_along (IsMatched port o table k.old) among_all src.notes out.notes match among in
+    pair_along (IsMatched port o table k.old) among_all src.notes out.notes match among in
     let three : Pairwise (λ a b. (IsMatched port o table k.old a b × among_all a) × turned_all a) src.notes out.notes =
-        pair_along (λ a b. IsMatched port o table k.old a b × among_all a) turned_all src.notes out.notes two turns.each in
+    pair_along (λ a b. IsMatched port o table k.old a b × among_all a) turned_all src.notes out.notes two turns.each in
     let seen : Pairwise (Seen port o table k c t src after turns.turn) src.notes out.notes =
-        pair_along (λ a b. (IsMatched port o table k.old a b × among_all a) × turned_all a) found src.notes out.notes three finds in
+    pair_along (λ a b. (IsMatched port o table k.old a b × among_all a) × turned_all a) found src.notes out.notes three finds in
     let done : Pairwise (IsMatched port o table k.old) (map turns.turn src.notes)
-        (map (brought_by o table after out t (held_by k.old c k.holds)) out.notes) =
+    (map (brought_by o table after out t (held_by k.old c k.holds)) out.notes) =
     pair_map (Seen port o table k c t src after turns.turn)
-        (IsMatched port o table k.old) turns.turn (brought_by o table after out t (held_by k.old c k.holds))
-        (matched_turned port o table k c t src after out w turns.turn) src.notes out.notes seen in
+    (IsMatched port o table k.old) turns.turn (brought_by o table after out t (held_by k.old c k.holds))
+    (matched_turned port o table k c t src after out w turns.turn) src.notes out.notes seen in
     subst (λ ns. Pairwise (IsMatched port o table k.old) ns x.notes) (sym turns.notes)
-        (subst (λ ns. Pairwise (IsMatched port o table k.old) (map turns.turn src.notes) ns) (sym to.notes) done)
+    (subst (λ ns. Pairwise (IsMatched port o table k.old) (map turns.turn src.notes) ns) (sym to.notes) done)

@@ -45,8 +45,14 @@ pub same_music : MusicLaws → (scaling : Scaling) (o : Options) (table : Target
     PlaysTheSameMusic scaling o table (plain_device o) (unnumbered ns) (port_output o table plan quiet quiet ns)
 same_music m scaling o table used row plan ns last given heard =
     let timely : AreTimely ns last = heard.timely in
-    let scales : Scales scaling o table = record { laws = m.pitches; route = row.route; range = heard.range; bounds = heard.bounds; few_terms =
-        heard.few_terms } in
+    let scales : Scales scaling o table = record {
+      laws = m.pitches;
+      route = row.route;
+      range = heard.range;
+      bounds = heard.bounds;
+      few_terms =
+          heard.few_terms;
+    } in
     plays_same_music IsWellFormed m.laws scaling o table used row plan ns last given timely (record {
       notes = same_notes IsWellFormed m.laws o table used row plan ns last given timely;
       sound = same_sound m.laws m.given m.others m.stay scaling o table scales used row plan ns last given timely

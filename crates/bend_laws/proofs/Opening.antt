@@ -17,7 +17,7 @@ use Rattle.midi_model.specs.Notes.{Note, sounds, cut_off, Fades}
 use Rattle.midi_model.specs.Music.{Music, quiet, begun, step, play}
 use Rattle.midi_model.specs.MusicLaws.{IsSettled, AllFade, NotesFade}
 use Rattle.midi_model.specs.Tuning.{selected_of}
-use Rattle.midi_model.specs.Receiver.{Receiver, start, receive, receive_all, after}
+use Rattle.midi_model.specs.Receiver.{Receiver, start, receive, after}
 use Rattle.retune_model.specs.Table.{Scaling, BendTarget}
 use Rattle.retune_model.specs.Options.{Options}
 use Rattle.retune_model.specs.PlaysTheSame.{Pairwise, SoundsTheSame, Beginning, begins_note, last_note, beginning, beginnings_from, beginnings, BeginsAlike, BeginsTheSame, plain_device}
@@ -117,8 +117,13 @@ faded_end [] n [] h = absurd h
 faded_end [] n (x ∷ []) h = record { front = []; note = x; is = refl; fades = h.0 }
 faded_end [] n (x ∷ y ∷ ys) h = absurd h.1
 faded_end (m ∷ ms) n [] h = absurd h
-faded_end (m ∷ ms) n (x ∷ xs) h = let r : EndsIn n xs = faded_end ms n xs h.1 in record { front = x ∷ r.front; note = r.note; is =
-    ap (λ zs. x ∷ zs) r.is; fades = r.fades }
+faded_end (m ∷ ms) n (x ∷ xs) h = let r : EndsIn n xs = faded_end ms n xs h.1 in record {
+  front = x ∷ r.front;
+  note = r.note;
+  is =
+      ap (λ zs. x ∷ zs) r.is;
+  fades = r.fades;
+}
 
 retuned_end : (o : Options) (xs : List Note) (n : Note) → is_part o n.channel ≡ true → retuned o (xs ++ n ∷ []) ≡ retuned o xs ++ n ∷ []
 retuned_end o xs n part = filter-append (λ x. is_part o x.channel) xs (n ∷ []) ∙ ap (λ b. retuned o xs ++ cond b (n ∷ []) []) part
@@ -129,7 +134,7 @@ retuned_end o xs n part = filter-append (λ x. is_part o x.channel) xs (n ∷ []
 abbrev HeardAlike : Scaling → Options → List MidiEvent → List MidiEvent → Type 0
 HeardAlike scaling o es xs =
     Pairwise (λ x y. sounds x ≡ true → SoundsTheSame scaling o (plain_device o) es xs x y) (retuned o (after es).music.notes)
-        (retuned o (after xs).music.notes)
+    (retuned o (after xs).music.notes)
 
 abbrev StartAlike : Scaling → Options → List Beginning → List Beginning → Type 0
 StartAlike scaling o xs ys = Pairwise (BeginsAlike scaling o (plain_device o)) xs ys
@@ -140,7 +145,7 @@ struck_alike : NotesFade → (scaling : Scaling) (o : Options) (es xs : List Mid
     (after es).music.zones ≡ no_zones → IsSettled (after es).music →
     (let e : MidiEvent = said_at t track (NoteOn c j (suc v)) in let block : List MidiEvent = saying e (ms ++ NoteOn d i (suc v) ∷ []) in
     HeardAlike scaling o (es ++ e ∷ []) (xs ++ block) → StartAlike scaling o (beginnings_from (is_part o) es (e ∷ []))
-        (beginnings_from (is_part o) xs block))
+    (beginnings_from (is_part o) xs block))
 struck_alike law scaling o es xs t track c j v d i ms part there none z settled h =
     let e : MidiEvent = said_at t track (NoteOn c j (suc v)) in
     let y : MidiEvent = said_at t track (NoteOn d i (suc v)) in
@@ -156,7 +161,7 @@ struck_alike law scaling o es xs t track c j v d i ms part there none z settled 
     let n : Note = new_note (after es).music t c j (suc v) in
     let front : List Note = map (cut_off t c j) (after es).music.notes in
     let source : (after es1).music.notes ≡ front ++ n ∷ [] = ap (λ (r : Receiver). r.music.notes) rs1 ∙ ap (λ (m : Music). m.notes)
-        (strikes_note (after es).music t c j v z settled) in
+    (strikes_note (after es).music t c j v z settled) in
     let end : EndsIn (begun x.music t d i (suc v)) (receive x y).music.notes =
     faded_end x.music.notes (begun x.music t d i (suc v)) (receive x y).music.notes (law x.music t (Plays (NoteOn d i (suc v)))) in
     let end_is : (after xs1).music.notes ≡ end.front ++ end.note ∷ [] = ap (λ (r : Receiver). r.music.notes) ro1 ∙ end.is in
@@ -167,15 +172,15 @@ struck_alike law scaling o es xs t track c j v d i ms part there none z settled 
     subst (λ ys. Pairwise R (retuned o front ++ n ∷ []) ys) (ap (retuned o) end_is ∙ retuned_end o end.front end.note on)
     (subst (λ qs. Pairwise R qs (retuned o (after xs1).music.notes)) (ap (retuned o) source ∙ retuned_end o front n part) heard) in
     let alike : SoundsTheSame scaling o (plain_device o) es1 xs1 n end.note = pair_end R (retuned o front)
-        (retuned o end.front) n end.note ends refl in
+    (retuned o end.front) n end.note ends refl in
     let left : beginnings_from (is_part o) es (e ∷ []) ≡ one_beginning es1 track n =
     ap (λ b. cond b (last_note es1 track (after es1).music.notes) [] ++ []) part ∙ append-nil (last_note es1 track (after es1).music.notes)
-        ∙ ap (last_note es1 track) source ∙ last_end es1 track front n in
+    ∙ ap (last_note es1 track) source ∙ last_end es1 track front n in
     let right : beginnings_from (is_part o) xs block ≡ one_beginning xs1 track end.note =
     ap (beginnings_from (is_part o) xs) parted ∙ begin_append (is_part o) xs (saying e ms) (y ∷ [])
-        ∙ ap (λ q. q ++ beginnings_from (is_part o) zs (y ∷ [])) (no_beginnings (is_part o) xs e ms none)
+    ∙ ap (λ q. q ++ beginnings_from (is_part o) zs (y ∷ [])) (no_beginnings (is_part o) xs e ms none)
     ∙ ap (λ b. cond b (last_note xs1 track (after xs1).music.notes) [] ++ []) there ∙ append-nil (last_note xs1 track (after xs1).music.notes)
-        ∙ ap (last_note xs1 track) end_is
+    ∙ ap (last_note xs1 track) end_is
     ∙ last_end xs1 track end.front end.note in
     subst (λ q. StartAlike scaling o q (beginnings_from (is_part o) xs block)) (sym left)
     (subst (λ q. StartAlike scaling o (one_beginning es1 track n) q) (sym right) (record { track = refl; pitch = alike.pitch }, tt))
@@ -197,7 +202,7 @@ note_alike : NotesFade → (scaling : Scaling) (port : ℕ) (o : Options) (table
     (b : Both) (t track c j v : ℕ) (es xs : List MidiEvent) → Here port o table used k b (said_at t track (NoteOn c j (suc v))) es →
     is_part o c ≡ true →
     (let e : MidiEvent = said_at t track (NoteOn c j (suc v)) in HeardAlike scaling o (es ++ e ∷ [])
-        (xs ++ port_block port o table k b.source b.out e) →
+    (xs ++ port_block port o table k b.source b.out e) →
     StartAlike scaling o (beginnings_from (is_part o) es (e ∷ [])) (beginnings_from (is_part o) xs (port_block port o table k b.source b.out e)))
 note_alike law scaling port o table used row k b t track c j v es xs here part =
     let msg : Msg = NoteOn c j (suc v) in
@@ -208,14 +213,14 @@ note_alike law scaling port o table used row k b t track c j v es xs here part =
     let x : BendTarget = target.0 in
     let p : Pair = pair_with port c x in
     let there : is_part o (k.new p) ≡ true = row.retuned (k.new p)
-        (here.sound.used_is p (begun_there IsWellFormed port o table used k.old k.was k b t track c j v here.follows here.sound part x target.1)) in
+    (here.sound.used_is p (begun_there IsWellFormed port o table used k.old k.was k b t track c j v here.follows here.sound part x target.1)) in
     let ms : List Msg = setup o table k later b.out p (is_member is_same_pair k.was p) in
     subst (λ zs. HeardAlike scaling o (es ++ e ∷ []) (xs ++ zs) → StartAlike scaling o (beginnings_from (is_part o) es (e ∷ []))
-        (beginnings_from (is_part o) xs zs))
+    (beginnings_from (is_part o) xs zs))
     (sym (part_block port o table k b.source b.out t track msg (ms ++ NoteOn (k.new p) x.key (suc v) ∷ []) part
-        (ap (strikes port o table k later b.out c (suc v)) target.1)))
+    (ap (strikes port o table k later b.out c (suc v)) target.1)))
     (struck_alike law scaling o es xs t track c j v (k.new p) x.key ms part there (setup_none o table k later b.out p
-        (is_member is_same_pair k.was p))
+    (is_member is_same_pair k.was p))
     (ap (λ (m : Music). m.zones) here.music ∙ here.follows.source_zones) (subst IsSettled (sym here.music) here.follows.source_settled))
 
 message_alike : NotesFade → (scaling : Scaling) (port : ℕ) (o : Options) (table : Targets) (used : ℕ → Bool) → AreUsed o used → (k : Moment)
@@ -228,15 +233,15 @@ message_alike law scaling port o table used row k b t track msg es xs here heard
       | inr drum ↦ neither scaling o (beginnings_from (is_part o) es (e ∷ []))
           (beginnings_from (is_part o) xs (port_block port o table k b.source b.out e)) (one_none (is_part o) es e (drum_begins o msg drum))
           (ap (beginnings_from (is_part o) xs) (drum_block port o table k b.source b.out t track msg drum)
-              ∙ one_none (is_part o) xs e (drum_begins o msg drum))
+          ∙ one_none (is_part o) xs e (drum_begins o msg drum))
       | inl part ↦ elim (is_note msg) [
         | inl none ↦ neither scaling o (beginnings_from (is_part o) es (e ∷ []))
             (beginnings_from (is_part o) xs (port_block port o table k b.source b.out e))
             (one_none (is_part o) es e (none_begins (is_part o) msg none))
             (ap (beginnings_from (is_part o) xs) (part_block port o table k b.source b.out t track msg
-                (part_causes port o table k b.source (step b.source e) b.out t msg) part refl)
+            (part_causes port o table k b.source (step b.source e) b.out t msg) part refl)
             ∙ no_beginnings (is_part o) xs e (part_causes port o table k b.source (step b.source e) b.out t msg)
-                (part_none port o table k b.source (step b.source e) b.out t msg none))
+            (part_none port o table k b.source (step b.source e) b.out t msg none))
         | inr (c, j, v, same) ↦ subst Goal (sym same) (λ p h g. note_alike law scaling port o table used row k b t track c j v es xs h p g) part here heard
       ]
     ]
@@ -245,12 +250,12 @@ message_alike law scaling port o table used row k b t track msg es xs here heard
     Goal m = is_part o (channel_of m) ≡ true → Here port o table used k b (said_at t track m) es →
         HeardAlike scaling o (es ++ (said_at t track m) ∷ []) (xs ++ port_block port o table k b.source b.out (said_at t track m)) →
         StartAlike scaling o (beginnings_from (is_part o) es (said_at t track m ∷ []))
-            (beginnings_from (is_part o) xs (port_block port o table k b.source b.out (said_at t track m)))
+        (beginnings_from (is_part o) xs (port_block port o table k b.source b.out (said_at t track m)))
 
 event_alike : NotesFade → (scaling : Scaling) (port : ℕ) (o : Options) (table : Targets) (used : ℕ → Bool) → AreUsed o used → (k : Moment)
     (b : Both) (t track : ℕ) (w : MidiWhat) (es xs : List MidiEvent) →
     (let e : MidiEvent = record { tick = t; track = track; what = w } in Here port o table used k b e es → HeardAlike scaling o (es ++ e ∷ [])
-        (xs ++ port_block port o table k b.source b.out e) →
+    (xs ++ port_block port o table k b.source b.out e) →
     StartAlike scaling o (beginnings_from (is_part o) es (e ∷ [])) (beginnings_from (is_part o) xs (port_block port o table k b.source b.out e)))
 event_alike law scaling port o table used row k b t track (Says msg) es xs here heard =
     message_alike law scaling port o table used row k b t track msg es xs here heard
@@ -269,32 +274,32 @@ events_longer ns rising k =
 begins_to : Laws IsWellFormed → PutGivesTheValue → PutLeavesTheOthers → KeepsTheTuning → ReceiversStay → (scaling : Scaling) (o : Options)
     (table : Targets) → Scales scaling o table → (used : ℕ → Bool) → AreUsed o used → (plan : PortRuns) (ns : List Numbered) (last : ℕ) →
     IsPlanned IsWellFormed o table used plan ns last → Ascend 0 ns → (k : ℕ) → k ≤ last →
-        StartAlike scaling o (beginnings (is_part o) (unnumbered (up_to_position k ns))) (beginnings (is_part o) (blocks_to o table plan ns k))
+    StartAlike scaling o (beginnings (is_part o) (unnumbered (up_to_position k ns))) (beginnings (is_part o) (blocks_to o table plan ns k))
 begins_to laws gives others tuning stay scaling o table scales used row plan ns last given rising zero low =
     subst (λ xs. StartAlike scaling o (beginnings (is_part o) (unnumbered xs)) []) (sym (none_yet 0 ns rising 0 (omega arith))) tt
 begins_to laws gives others tuning stay scaling o table scales used row plan ns last given rising (suc k) low =
     subst (λ xs. StartAlike scaling o (beginnings (is_part o) xs) (beginnings (is_part o) (blocks_to o table plan ns (suc k))))
-        (sym (events_longer ns rising k))
+    (sym (events_longer ns rising k))
     (go (begins_to laws gives others tuning stay scaling o table scales used row plan ns last given rising k (omega arith))
-        (port_event ns (suc k)) refl)
+    (port_event ns (suc k)) refl)
   where
     go : StartAlike scaling o (beginnings (is_part o) (unnumbered (up_to_position k ns))) (beginnings (is_part o) (blocks_to o table plan ns k)) →
         (x : Option MidiEvent) → port_event ns (suc k) ≡ x →
         StartAlike scaling o (beginnings (is_part o) (unnumbered (up_to_position k ns) ++ events_if x))
-            (beginnings (is_part o) (blocks_to o table plan ns k ++ block_if plan.number o table (moment plan k) (both_at o table plan ns k) x))
+        (beginnings (is_part o) (blocks_to o table plan ns k ++ block_if plan.number o table (moment plan k) (both_at o table plan ns k) x))
     go h None is =
         subst (λ xs. StartAlike scaling o (beginnings (is_part o) xs) (beginnings (is_part o) (blocks_to o table plan ns k ++ [])))
-            (sym (append-nil (unnumbered (up_to_position k ns))))
+        (sym (append-nil (unnumbered (up_to_position k ns))))
         (subst (λ ys. StartAlike scaling o (beginnings (is_part o) (unnumbered (up_to_position k ns))) (beginnings (is_part o) ys))
-            (sym (append-nil (blocks_to o table plan ns k))) h)
+        (sym (append-nil (blocks_to o table plan ns k))) h)
     go h (Some e) is =
         let S : Beginning → Beginning → Type 0 = BeginsAlike scaling o (plain_device o) in
         let es : List MidiEvent = unnumbered (up_to_position k ns) in
         let bs : List MidiEvent = blocks_to o table plan ns k in
         let block : List MidiEvent = port_block plan.number o table (moment plan k)
-            (both_at o table plan ns k).source (both_at o table plan ns k).out e in
+        (both_at o table plan ns k).source (both_at o table plan ns k).out e in
         let is_source : (after es).music ≡ (both_at o table plan ns k).source = music_all start es
-            ∙ sym (source_is_played o table plan ns k rising) in
+        ∙ sym (source_is_played o table plan ns k rising) in
         let is_out : (after bs).music ≡ (both_at o table plan ns k).out = music_all start bs ∙ sym (out_is o table plan ns k) in
         let here : Here plan.number o table used (moment plan k) (both_at o table plan ns k) e es = record {
           follows = follows_at IsWellFormed laws o table used row plan ns last given k (omega arith);
@@ -309,19 +314,19 @@ begins_to laws gives others tuning stay scaling o table scales used row plan ns 
         ap (λ (r : Receiver). r.music) (all_receive start bs block) ∙ music_all (after bs) block ∙ ap (λ m. play m block) is_out
         ∙ sym (ap (λ x. (both_next plan.number o table (moment plan k) (both_at o table plan ns k) x).out) is) in
         let all : blocks_to o table plan ns (suc k) ≡ bs ++ block = ap (λ x. bs ++ block_if plan.number o table (moment plan k)
-            (both_at o table plan ns k) x) is in
+        (both_at o table plan ns k) x) is in
         let heard : HeardAlike scaling o (es ++ e ∷ []) (bs ++ block) =
         sound_at_position laws gives others stay scaling o table scales used row plan ns last given (suc k) low (es ++ e ∷ [])
-            (bs ++ block) source_next out_next
+        (bs ++ block) source_next out_next
         (λ c u. ap (λ zs. selected_of (after zs).tuning c) (sym all)
-            ∙ blocks_quiet laws tuning stay o table used row plan ns last given (suc k) low c u) in
+        ∙ blocks_quiet laws tuning stay o table used row plan ns last given (suc k) low c u) in
         subst (λ xs. Pairwise S xs (beginnings (is_part o) (bs ++ block))) (sym (begin_append (is_part o) [] es (e ∷ [])))
         (subst (λ ys. Pairwise S (beginnings (is_part o) es ++ beginnings_from (is_part o) es (e ∷ [])) ys)
-            (sym (begin_append (is_part o) [] bs block))
+        (sym (begin_append (is_part o) [] bs block))
         (pair_append S (beginnings (is_part o) es) (beginnings_from (is_part o) es (e ∷ [])) (beginnings (is_part o) bs)
-            (beginnings_from (is_part o) bs block) h
+        (beginnings_from (is_part o) bs block) h
         (event_alike laws.fade scaling plan.number o table used row (moment plan k)
-            (both_at o table plan ns k) e.tick e.track e.what es bs here heard)))
+        (both_at o table plan ns k) e.tick e.track e.what es bs here heard)))
 
 pub all_up : (m : ℕ) (ns : List Numbered) → AllByRecursion (λ (n : Numbered). n.position ≤ m) ns → up_to_position m ns ≡ ns
 all_up m [] h = refl
@@ -336,10 +341,10 @@ all_blocks o table plan ns last timely = blocks_are o table plan ns last timely.
 pub begins_same : Laws IsWellFormed → PutGivesTheValue → PutLeavesTheOthers → KeepsTheTuning → ReceiversStay → (scaling : Scaling) (o : Options)
     (table : Targets) → Scales scaling o table → (used : ℕ → Bool) → AreUsed o used → (plan : PortRuns) (ns : List Numbered) (last : ℕ) →
     IsPlanned IsWellFormed o table used plan ns last → AreTimely ns last → BeginsTheSame scaling o (plain_device o) (is_part o) (unnumbered ns)
-        (port_output o table plan quiet quiet ns)
+    (port_output o table plan quiet quiet ns)
 begins_same laws gives others tuning stay scaling o table scales used row plan ns last given timely =
     subst (λ xs. StartAlike scaling o (beginnings (is_part o) (unnumbered xs)) (beginnings (is_part o) (port_output o table plan quiet quiet ns)))
-        (all_up last ns timely.within)
+    (all_up last ns timely.within)
     (subst (λ ys. StartAlike scaling o (beginnings (is_part o) (unnumbered (up_to_position last ns))) (beginnings (is_part o) ys))
-        (all_blocks o table plan ns last timely)
+    (all_blocks o table plan ns last timely)
     (begins_to laws gives others tuning stay scaling o table scales used row plan ns last given timely.rising last (omega arith)))

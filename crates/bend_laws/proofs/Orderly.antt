@@ -30,7 +30,7 @@ output_places P o table runs ports k s [] h = tt
 output_places P o table runs ports k s (e ∷ es) h =
     let z : ℕ = port_of ports e in
     all_append (λ x. P x.tick x.track) (block_of o table (runs z) k (s z) e) (file_from o table runs (ports_after ports e) (suc k)
-        (state_after o table runs ports k s e) es)
+    (state_after o table runs ports k s e) es)
     (block_places P e (causes_of o table (runs z) k (s z) e) h.0)
     (output_places P o table runs (ports_after ports e) (suc k) (state_after o table runs ports k s e) es h.1)
 
@@ -46,9 +46,10 @@ at e t track = record e { tick = t; track = track }
 order_block : (e : MidiEvent) (ws : List MidiWhat) (ys : List MidiEvent) → AllByRecursion (λ y. precedes e y ≡ true) ys → InOrder ys →
     InOrder (placed_at e ws ++ ys)
 order_block e [] ys p h = h
-order_block e (w ∷ ws) ys p h =
-    (all_append (λ y. precedes e y ≡ true) (placed_at e ws) ys (block_places (λ t track. precedes e (at e t track) ≡ true) e ws (itself e)) p,
-        order_block e ws ys p h)
+order_block e (w ∷ ws) ys p h = (
+  all_append (λ y. precedes e y ≡ true) (placed_at e ws) ys (block_places (λ t track. precedes e (at e t track) ≡ true) e ws (itself e)) p,
+  order_block e ws ys p h,
+)
 
 output_order : (o : Options) (table : Targets) (runs : ℕ → PortRuns) (ports : ℕ → ℕ) (k : ℕ) (s : ℕ → Played) (es : List MidiEvent) → InOrder es →
     InOrder (file_from o table runs ports k s es)
@@ -56,9 +57,9 @@ output_order o table runs ports k s [] h = tt
 output_order o table runs ports k s (e ∷ es) h =
     let z : ℕ = port_of ports e in
     order_block e (causes_of o table (runs z) k (s z) e) (file_from o table runs (ports_after ports e) (suc k)
-        (state_after o table runs ports k s e) es)
+    (state_after o table runs ports k s e) es)
     (output_places (λ t track. precedes e (at e t track) ≡ true) o table runs (ports_after ports e) (suc k)
-        (state_after o table runs ports k s e) es h.0)
+    (state_after o table runs ports k s e) es h.0)
     (output_order o table runs (ports_after ports e) (suc k) (state_after o table runs ports k s e) es h.1)
 
 -- ---- ends of tracks
@@ -99,7 +100,7 @@ ends_block t e (w ∷ ws) h ys g =
     let x : MidiEvent = record e { what = w } in
     let rest : EndsOnce (of_track t (placed_at e ws ++ ys)) = ends_block t e ws h.1 ys g in
     cond_both (eqb e.track t) (x ∷ of_track t (placed_at e ws ++ ys))
-        (of_track t (placed_at e ws ++ ys)) EndsOnce (λ k. ends_cons x (of_track t (placed_at e ws ++ ys)) h.0 rest) (λ k. rest)
+    (of_track t (placed_at e ws ++ ys)) EndsOnce (λ k. ends_cons x (of_track t (placed_at e ws ++ ys)) h.0 rest) (λ k. rest)
 
 -- an event that is passed on
 ends_passed : (b : Bool) (e : MidiEvent) (source out : List MidiEvent) → (source ≡ [] → out ≡ []) → (EndsOnce source → EndsOnce out) →
@@ -118,7 +119,7 @@ ends_later true e source goes h = goes_on e source goes h
 event_ends : (t : ℕ) (port : ℕ) (o : Options) (table : Targets) (k : Moment) (before out : Music) (tick track : ℕ) (w : MidiWhat)
     (source rest : List MidiEvent) → (of_track t source ≡ [] → of_track t rest ≡ []) → (EndsOnce (of_track t source) → EndsOnce (of_track t rest)) →
     (let e : MidiEvent = record { tick = tick; track = track; what = w } in EndsOnce (of_track t (e ∷ source)) →
-        EndsOnce (of_track t (port_block port o table k before out e ++ rest)))
+    EndsOnce (of_track t (port_block port o table k before out e ++ rest)))
 event_ends t port o table k before out tick track (Says msg) source rest none later h =
     let e : MidiEvent = record { tick = tick; track = track; what = Says msg } in
     let ms : List Msg = part_causes port o table k before (step before e) out tick msg in
@@ -139,7 +140,7 @@ output_ends t o table runs ports k s (e ∷ es) h =
     let rest : List MidiEvent = file_from o table runs (ports_after ports e) (suc k) (state_after o table runs ports k s e) es in
     event_ends t (runs z).number o table (moment_at (runs z) (suc k)) (s z).source (s z).out e.tick e.track e.what es rest
     (λ none. none_there t rest (output_places (λ tick track. eqb track t ≡ false) o table runs (ports_after ports e) (suc k)
-        (state_after o table runs ports k s e) es (is_elsewhere t es none)))
+    (state_after o table runs ports k s e) es (is_elsewhere t es none)))
     (output_ends t o table runs (ports_after ports e) (suc k) (state_after o table runs ports k s e) es) h
 
 pub output_playable : (tracks : ℕ) (o : Options) (table : Targets) (runs : ℕ → PortRuns) (es : List MidiEvent) →

@@ -1,5 +1,5 @@
 -- The musics at each position, by the lists of events that lead to them.
-use Rattle.std.proofs.Common.{◌≡◌, ◌<◌, ◌≤◌, ◌-◌, ℕ, zero, suc, cond, List, [], ◌∷◌, ◌++◌, Option, Some, None, refl, ap, sym, ◌∙◌, subst, map, nat_eq, append_assoc, arith, inl, inr}
+use Rattle.std.proofs.Common.{◌≡◌, ◌<◌, ◌≤◌, ℕ, zero, suc, cond, List, [], ◌∷◌, ◌++◌, Option, Some, None, refl, ap, sym, ◌∙◌, subst, map, nat_eq, append_assoc, arith, inl, inr}
 use Rattle.std.proofs.lemmas.Bool.{cases_Bool, cases_eq, cases_order, le-leb, lt-leb, eq-eqb, ne_eqb}
 use Rattle.std.proofs.lemmas.List.{append-nil}
 use Rattle.mt_base.specs.Midi.{MidiEvent}
@@ -27,7 +27,7 @@ out_is o table plan ns (suc k) =
     let b : Both = both_at o table plan ns k in
     let block : List MidiEvent = block_if plan.number o table (moment plan k) b (port_event ns (suc k)) in
     next_out plan.number o table (moment plan k) b (port_event ns (suc k)) ∙ ap (λ m. play m block) (out_is o table plan ns k)
-        ∙ sym (play_append quiet (blocks_to o table plan ns k) block)
+    ∙ sym (play_append quiet (blocks_to o table plan ns k) block)
 
 -- ---- the events up to a position
 
@@ -41,14 +41,14 @@ none_yet k [] r j l = refl
 none_yet k (n ∷ ns) r j l =
     let later : k < n.position = r.0 in
     ap (λ b. cond b (n ∷ up_to_position j ns) (up_to_position j ns)) (lt-leb n.position j (omega (arith, later, l)))
-        ∙ none_yet n.position ns r.1 j (omega (arith, later, l))
+    ∙ none_yet n.position ns r.1 j (omega (arith, later, l))
 
 none_at : (k : ℕ) (ns : List Numbered) → Ascend k ns → (j : ℕ) → j ≤ k → numbered_at ns j ≡ []
 none_at k [] r j l = refl
 none_at k (n ∷ ns) r j l =
     let later : k < n.position = r.0 in
     ap (λ b. cond b (n ∷ []) (numbered_at ns j)) (ne_eqb n.position j (λ e. omega (arith, e, later, l)))
-        ∙ none_at n.position ns r.1 j (omega (arith, later, l))
+    ∙ none_at n.position ns r.1 j (omega (arith, later, l))
 
 pub one_more : (m : ℕ) (ns : List Numbered) → Ascend m ns → (k : ℕ) → up_to_position (suc k) ns ≡ up_to_position k ns ++ numbered_at ns (suc k)
 one_more m [] r k = refl
@@ -69,7 +69,7 @@ one_more m (n ∷ ns) r k = elim (cases_order n.position (suc k)) [
         (n ∷ ns) ≡ up_to_position k (n ∷ ns) ++ numbered_at (n ∷ ns) (suc k)
     none_yet_both m n ns r k l =
         none_yet (suc k) (n ∷ ns) (l, r.1) (suc k) (omega arith) ∙ sym (ap (λ xs. xs ++ numbered_at (n ∷ ns) (suc k))
-            (none_yet (suc k) (n ∷ ns) (l, r.1) k (omega arith)) ∙ none_at (suc k) (n ∷ ns) (l, r.1) (suc k) (omega arith))
+        (none_yet (suc k) (n ∷ ns) (l, r.1) k (omega arith)) ∙ none_at (suc k) (n ∷ ns) (l, r.1) (suc k) (omega arith))
 
 -- ---- the source's music
 
@@ -95,9 +95,9 @@ source_played ns r zero = sym (ap (λ xs. play quiet (map (λ (n : Numbered). n.
 source_played ns r (suc k) =
     let es : List MidiEvent = map (λ (n : Numbered). n.event) (up_to_position k ns) in
     ap (λ m. source_next m (port_event ns (suc k))) (source_played ns r k) ∙ sym (play_if (music_at ns k) (port_event ns (suc k)))
-        ∙ sym (play_append quiet es (events_if (port_event ns (suc k))))
+    ∙ sym (play_append quiet es (events_if (port_event ns (suc k))))
     ∙ ap (λ xs. play quiet (es ++ xs)) (sym (event_listed ns (suc k))) ∙ ap (play quiet)
-        (sym (map_append (λ (n : Numbered). n.event) (up_to_position k ns) (numbered_at ns (suc k))))
+    (sym (map_append (λ (n : Numbered). n.event) (up_to_position k ns) (numbered_at ns (suc k))))
     ∙ ap (λ xs. play quiet (map (λ (n : Numbered). n.event) xs)) (sym (one_more 0 ns r k))
 
 pub source_is_played : (o : Options) (table : Targets) (plan : PortRuns) (ns : List Numbered) (k : ℕ) → Ascend 0 ns →
@@ -114,14 +114,14 @@ both_over o table plan src out (n ∷ ns) = both_over o table plan (step src n.e
 
 pub output_append : (o : Options) (table : Targets) (plan : PortRuns) (src out : Music) (xs ys : List Numbered) →
     port_output o table plan src out (xs ++ ys) ≡ port_output o table plan src out xs ++ port_output o table plan
-        (both_over o table plan src out xs).0 (both_over o table plan src out xs).1 ys
+    (both_over o table plan src out xs).0 (both_over o table plan src out xs).1 ys
 output_append o table plan src out [] ys = refl
 output_append o table plan src out (n ∷ ns) ys =
     let block : List MidiEvent = port_block plan.number o table (moment_at plan n.position) src out n.event in
     let rest : List MidiEvent = port_output o table plan (step src n.event) (play out block) ns in
     ap (λ xs. block ++ xs) (output_append o table plan (step src n.event) (play out block) ns ys)
     ∙ sym (append_assoc block rest (port_output o table plan (both_over o table plan (step src n.event)
-        (play out block) ns).0 (both_over o table plan (step src n.event) (play out block) ns).1 ys))
+    (play out block) ns).0 (both_over o table plan (step src n.event) (play out block) ns).1 ys))
 
 over_append : (o : Options) (table : Targets) (plan : PortRuns) (src out : Music) (xs ys : List Numbered) →
     both_over o table plan src out (xs ++ ys) ≡ both_over o table plan (both_over o table plan src out xs).0 (both_over o table plan src out xs).1 ys
@@ -162,7 +162,7 @@ over_is o table plan ns r zero = ap (both_over o table plan quiet quiet) (none_y
 over_is o table plan ns r (suc k) =
     ap (both_over o table plan quiet quiet) (one_more 0 ns r k) ∙ over_append o table plan quiet quiet (up_to_position k ns) (numbered_at ns (suc k))
     ∙ ap (λ (x : Music × Music). both_over o table plan x.0 x.1 (numbered_at ns (suc k))) (over_is o table plan ns r k)
-        ∙ one_over o table plan ns k (both_at o table plan ns k)
+    ∙ one_over o table plan ns k (both_at o table plan ns k)
 
 pub blocks_are : (o : Options) (table : Targets) (plan : PortRuns) (ns : List Numbered) (k : ℕ) → Ascend 0 ns →
     blocks_to o table plan ns k ≡ port_output o table plan quiet quiet (up_to_position k ns)
@@ -172,5 +172,5 @@ blocks_are o table plan ns (suc k) r =
     ap (λ es. es ++ block_if plan.number o table (moment plan k) (both_at o table plan ns k) (port_event ns (suc k))) (blocks_are o table plan ns k r)
     ∙ ap (λ es. port_output o table plan quiet quiet xs ++ es) (sym (one_block o table plan ns k (both_at o table plan ns k)))
     ∙ ap (λ (x : Music × Music). port_output o table plan quiet quiet xs ++ port_output o table plan x.0 x.1 (numbered_at ns (suc k)))
-        (sym (over_is o table plan ns r k))
+    (sym (over_is o table plan ns r k))
     ∙ sym (output_append o table plan quiet quiet xs (numbered_at ns (suc k))) ∙ ap (port_output o table plan quiet quiet) (sym (one_more 0 ns r k))

@@ -41,14 +41,14 @@ kept_none f track e (w ∷ ws) h = pick (eqb e.track track) (kept_none f track e
 
 block_other : (port : ℕ) (o : Options) (table : Targets) (k : Moment) (before out : Music) (t place : ℕ) (w : MidiWhat) (track : ℕ) →
     (let e : MidiEvent = record { tick = t; track = place; what = w } in kept is_no_message track (port_block port o table k before out e)
-        ≡ kept is_no_message track (e ∷ []))
+    ≡ kept is_no_message track (e ∷ []))
 block_other port o table k before out t place (Says msg) track =
     let e : MidiEvent = record { tick = t; track = place; what = Says msg } in
     let ms : List Msg = part_causes port o table k before (step before e) out t msg in
     kept_none is_no_message track e (port_causes port o table k before (step before e) out t (Says msg))
     (cond_both (is_part o (channel_of msg)) (map Says ms) (Says msg ∷ []) (AllByRecursion (λ w. is_no_message w ≡ false))
     (λ p. all_mapped (λ w. is_no_message w ≡ false) Says (λ m. Unit {0}) (λ m u. refl) ms (all_always (λ m. Unit {0}) (λ m. tt) ms))
-        (λ p. (refl, tt)))
+    (λ p. (refl, tt)))
     ∙ sym (kept_none is_no_message track e (Says msg ∷ []) (refl, tt))
 block_other port o table k before out t place (SysexOf lead bytes) track = refl
 block_other port o table k before out t place (MetaOf kind bytes) track = refl
@@ -62,9 +62,9 @@ other_same o table runs ports k s (e ∷ es) track =
     let rest : List MidiEvent = file_from o table runs (ports_after ports e) (suc k) (state_after o table runs ports k s e) es in
     kept_append is_no_message track block rest
     ∙ ap (λ xs. xs ++ kept is_no_message track rest) (block_other (runs z).number o table (moment_at (runs z) (suc k))
-        (s z).source (s z).out e.tick e.track e.what track)
+    (s z).source (s z).out e.tick e.track e.what track)
     ∙ ap (λ ys. kept is_no_message track (e ∷ []) ++ ys) (other_same o table runs (ports_after ports e) (suc k)
-        (state_after o table runs ports k s e) es track)
+    (state_after o table runs ports k s e) es track)
     ∙ sym (kept_append is_no_message track (e ∷ []) es)
 
 pub keeps_all_others : (o : Options) (table : Targets) (runs : ℕ → PortRuns) (es : List MidiEvent) → bends_notes o.route ≡ true →

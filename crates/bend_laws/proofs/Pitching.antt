@@ -1,5 +1,5 @@
 -- The pitch of each retuned note: the bend isn't cut at its ends, and what is played is within half a step and a thousandth of a cent.
-use Rattle.std.proofs.Common.{◌≡◌, ◌≢◌, ◌≤◌, ◌<◌, ◌+◌, ◌*◌, ℕ, zero, suc, Bool, true, false, cond, not, ◌&&◌, List, [], ◌∷◌, ◌++◌, Option, Some, None, is_some, refl, ap, sym, ◌∙◌, subst, nat_eq, arith, inl, inr, pos, ℤ, ◌+ℤ◌, ◌-ℤ◌, ◌*ℤ◌, ◌≤ℤ◌}
+use Rattle.std.proofs.Common.{◌≡◌, ◌≢◌, ◌≤◌, ◌<◌, ◌+◌, ◌*◌, ℕ, zero, suc, Bool, true, false, cond, not, ◌&&◌, List, [], ◌∷◌, ◌++◌, Option, Some, None, is_some, refl, ap, sym, ◌∙◌, subst, arith, inl, inr, pos, ℤ, ◌+ℤ◌, ◌-ℤ◌, ◌*ℤ◌, ◌≤ℤ◌}
 use Rattle.std.specs.List.{AllByRecursion}
 use Rattle.std.specs.Option.{unwrap_or}
 use Rattle.std.specs.Set.{is_member}
@@ -83,7 +83,7 @@ pitch_by r n m p =
 
 played_is : (r : Receiver) (n : Note) → r.music.zones ≡ no_zones → selected_of r.tuning n.channel ≡ None
     → played r n ≡ ((pos (3200000000000 * n.key) +ℤ fine (channel_at r.music n.channel)) +ℤ coarse (channel_at r.music n.channel)) +ℤ bent
-        (channel_at r.music n.channel)
+    (channel_at r.music n.channel)
 played_is r n z e =
     let none : master r.music.zones n.channel ≡ None = ap (λ x. master x n.channel) z ∙ no_master n.channel in
     ap (λ m. pitch_by r n m (selected_of r.tuning (unwrap_or m n.channel))) none ∙ ap (λ q. pitch_by r n None q) e
@@ -102,9 +102,9 @@ bent_is range q cs co h =
     let r : ℤ = bend_in_steps range cs in
     let sens : 3906250 * (100 * range + 0) ≡ 390625000 * range = omega arith in
     let at : (pos co.bend -ℤ pos 8192) ≡ (q +ℤ r) = ap (λ b. pos b -ℤ pos 8192) h.bend ∙ ap (λ z. pos (bend_value z) -ℤ pos 8192) (regroup q r)
-        ∙ ap (λ z. z -ℤ pos 8192) (not_cut (q +ℤ r) h.uncut) ∙ away (q +ℤ r) in
+    ∙ ap (λ z. z -ℤ pos 8192) (not_cut (q +ℤ r) h.uncut) ∙ away (q +ℤ r) in
     ap (λ (v : ℕ × ℕ). pos (3906250 * (100 * v.0 + v.1)) *ℤ (pos co.bend -ℤ pos 8192)) h.range_set
-        ∙ ap (λ s. pos s *ℤ (pos co.bend -ℤ pos 8192)) sens ∙ ap (λ z. pos (390625000 * range) *ℤ z) at ∙ more_steps (390625000 * range) q r
+    ∙ ap (λ s. pos s *ℤ (pos co.bend -ℤ pos 8192)) sens ∙ ap (λ z. pos (390625000 * range) *ℤ z) at ∙ more_steps (390625000 * range) q r
   where
     regroup : (q r : ℤ) → (pos 8192 +ℤ q) +ℤ r ≡ pos 8192 +ℤ (q +ℤ r)
     regroup q r = omega (arith, ints)
@@ -151,7 +151,7 @@ bounds_of o table k t x h = pick (table k t) refl h
 pub pitch_alike : (scaling : Scaling) (o : Options) (table : Targets) → Scales scaling o table → (m : Music) (ro : Receiver) (a b : Note)
     (t : BendTarget) → a.key < 128 → target_of o table a ≡ Some t → b.key ≡ t.key →
     ro.music.zones ≡ no_zones → selected_of ro.tuning b.channel ≡ None → IsTunedAlike o.range t.steps (channel_at m a.channel)
-        (channel_at ro.music b.channel) → IsWithin (source_pitch scaling o m a) (played ro b) (bound o)
+    (channel_at ro.music b.channel) → IsWithin (source_pitch scaling o m a) (played ro b) (bound o)
 pitch_alike scaling o table g m ro a b t low aim key z none alike =
     let found = bounds_of o table a.key a.onset t aim in
     let p : HasPitch scaling a.key a.onset found.0 = has_pitch scaling table a.key a.onset found.0 g.bounds low found.1 in
@@ -164,15 +164,17 @@ pitch_alike scaling o table g m ro a b t low aim key z none alike =
     let same_fine : fine co ≡ fine cs = ap (λ (v : ℕ × ℕ). pos 390625000 *ℤ (pos (128 * v.0 + v.1) -ℤ pos 8192)) alike.fine in
     let same_coarse : coarse co ≡ coarse cs = ap (λ (v : ℕ × ℕ). pos 3200000000000 *ℤ (pos v.0 -ℤ pos 64)) alike.coarse in
     let sum : played ro b ≡ (K +ℤ Q) +ℤ x = played_is ro b z none ∙ ap (λ k. ((pos (3200000000000 * k) +ℤ fine co) +ℤ coarse co) +ℤ bent co) key
-        ∙ ap (λ f. ((K +ℤ f) +ℤ coarse co) +ℤ bent co) same_fine
+    ∙ ap (λ f. ((K +ℤ f) +ℤ coarse co) +ℤ bent co) same_fine
     ∙ ap (λ f. ((K +ℤ fine cs) +ℤ f) +ℤ bent co) same_coarse ∙ ap (λ f. ((K +ℤ fine cs) +ℤ coarse cs) +ℤ f) (bent_is o.range t.steps cs co alike)
-        ∙ regroup K (fine cs) (coarse cs) Q r in
+    ∙ regroup K (fine cs) (coarse cs) Q r in
     let close : Within (added p.pitch (exactly x)) (played ro b) (195312500 * o.range + 32000000) =
     heard_within g.laws p.pitch (terms_at scaling a.key a.onset)
-        (ratios_at_key scaling a.key a.onset) found.0 o.range t x (played ro b) p.bounds (g.few_terms a.key a.onset (omega (arith,
-        low))) g.range found.2 sum in
+    (ratios_at_key scaling a.key a.onset) found.0 o.range t x (played ro b) p.bounds (g.few_terms a.key a.onset (omega (
+      arith,
+      low,
+    ))) g.range found.2 sum in
     let P : Route → Type 0 = λ w. Within (added p.pitch (exactly ((fine cs +ℤ coarse cs) +ℤ moved w o.range cs))) (played ro b)
-        (half_step w o.range + 32000000) in
+    (half_step w o.range + 32000000) in
     let R : Option Pitch → Type 0 = λ q. IsWithin (heard_if o cs q) (played ro b) (bound o) in
     subst R (sym p.is) (subst P (sym g.route) close)
   where
@@ -228,7 +230,7 @@ none_beyond part r (q ∷ qs) none p h e =
     pick false f g rest = elim (or_cases (is_same_pair p q) (is_member is_same_pair qs p) h) [
       | inl same ↦ (let i : p ≡ q = same_pair p q same in
           let it : is_same_part q.part part ≡ true = ap (λ (x : Pair). is_same_part x.part part) (sym i) ∙ ap (λ x. is_same_part x part) e
-              ∙ part_itself part in
+          ∙ part_itself part in
           ap (λ (x : Pair). is_within_bend (x.steps +ℤ r)) i
           ∙ not-false (is_within_bend (q.steps +ℤ r)) (ap (λ b. b && not (is_within_bend (q.steps +ℤ r))) (sym it) ∙ f))
       | inr m ↦ rest g m
@@ -250,13 +252,13 @@ fits_message fade port o table ps m t msg route z s none test among h =
     let others : AllByRecursion (FitsElsewhere o table m c) after.notes =
     faded (FitsElsewhere o table m c) (elsewhere_fades o table m c) (m.notes ++ begun_by m t (Plays msg)) after.notes (fade m t (Plays msg))
     (all_append (FitsElsewhere o table m c) m.notes (begun_by m t (Plays msg)) (all_weaker (BendsFit o table m) (FitsElsewhere o table m c)
-        (λ n k other. k) m.notes h) (begun_elsewhere o table m t msg)) in
+    (λ n k other. k) m.notes h) (begun_elsewhere o table m t msg)) in
     let Own : Note → Type 0 = λ n. n.channel ≡ c → BendsFit o table after n in
     let own : AllByRecursion Own after.notes = elim (cases_Bool (is_part o c)) [
       | inr no_part ↦ every Own (λ n e part. absurd (both_ways (is_part o c) no_part (ap (is_part o) (sym e) ∙ part))) after.notes
       | inl part ↦ (let within : first_beyond (part_of port c) (bend_in_steps o.range (channel_at after c)) ps ≡ None =
           is_none (beyond_after port o after ps msg) (two_true (is_bend o.route) (is_part o c) (is_some (beyond_after port o after ps msg))
-              (ap is_bend route) part test) in
+          (ap is_bend route) part test) in
           all_weaker (λ n. is_part o n.channel ≡ true → sounds n ≡ true → IsAmong port ps n.channel (target_of o table n)) Own
           (λ n k e p sn x aim. subst (λ d. is_within_bend (x.steps +ℤ bend_in_steps o.range (channel_at after d)) ≡ true) (sym e)
           (none_beyond (part_of port c) (bend_in_steps o.range (channel_at after c)) ps within (pair_with port n.channel x)

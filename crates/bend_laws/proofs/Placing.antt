@@ -1,5 +1,5 @@
 -- The events of a port of a file: where they stand, and what holds of them.
-use Rattle.std.proofs.Common.{◌≡◌, ◌<◌, ◌≤◌, ◌+◌, ◌&&◌, ℕ, zero, suc, Bool, true, false, cond, List, [], ◌∷◌, Option, Some, None, refl, ap, sym, ◌∙◌, subst, filter, length, nat_eq, arith, inl, inr}
+use Rattle.std.proofs.Common.{◌≡◌, ◌<◌, ◌≤◌, ◌+◌, ◌&&◌, ℕ, suc, Bool, true, false, cond, List, [], ◌∷◌, Some, refl, ap, sym, ◌∙◌, subst, filter, length, nat_eq, arith, inl, inr}
 use Rattle.std.specs.List.{AllByRecursion}
 use Rattle.std.proofs.lemmas.Bool.{cases_eq, eq-eqb, ne_eqb, or_left, or_right, and_from}
 use Rattle.mt_base.specs.Midi.{MidiEvent}
@@ -73,17 +73,16 @@ pub all_of_port : (P : MidiEvent → Type 0) (z : ℕ) (ports : ℕ → ℕ) (k 
 all_of_port P z ports k [] h = tt
 all_of_port P z ports k (e ∷ es) h =
     let rest : AllByRecursion P (unnumbered (of_port_from z (ports_after ports e) (suc k) es)) = all_of_port P z (ports_after ports e)
-        (suc k) es h.1 in
+    (suc k) es h.1 in
     either_way (nat_eq (port_of ports e) z) (at_next k e) (of_port_from z (ports_after ports e) (suc k) es)
-        (λ xs. AllByRecursion P (unnumbered xs)) (h.0, rest) rest
+    (λ xs. AllByRecursion P (unnumbered xs)) (h.0, rest) rest
 
 -- what holds of each event of each port holds of all events of the file
 pub all_of_ports : (P : MidiEvent → Type 0) (ports : ℕ → ℕ) (k : ℕ) (es : List MidiEvent) →
     ((z : ℕ) → AllByRecursion P (unnumbered (of_port_from z ports k es))) → AllByRecursion P es
 all_of_ports P ports k [] h = tt
 all_of_ports P ports k (e ∷ es) h =
-    let here : ℕ = port_of ports e in
-    (
+    let here : ℕ = port_of ports e in (
       (subst (λ b. AllByRecursion P (unnumbered (with_event b (at_next k e) (of_port_from here (ports_after ports e) (suc k) es))))
           (eq-eqb here here refl) (h here)).0,
       all_of_ports P (ports_after ports e) (suc k) es (λ z. later (nat_eq here z) (of_port_from z (ports_after ports e) (suc k) es) (h z)),
@@ -99,9 +98,9 @@ positions_within m z ports k [] l = tt
 positions_within m z ports k (e ∷ es) l =
     let g : k + suc (length es) ≤ m = l in
     let rest : AllByRecursion (λ (n : Numbered). n.position ≤ m) (of_port_from z (ports_after ports e) (suc k) es) =
-        positions_within m z (ports_after ports e) (suc k) es (omega (arith, g)) in
+    positions_within m z (ports_after ports e) (suc k) es (omega (arith, g)) in
     either_way (nat_eq (port_of ports e) z) (at_next k e) (of_port_from z (ports_after ports e) (suc k) es)
-        (AllByRecursion (λ (n : Numbered). n.position ≤ m)) (omega (arith, g), rest) rest
+    (AllByRecursion (λ (n : Numbered). n.position ≤ m)) (omega (arith, g), rest) rest
 
 pub port_within : (z : ℕ) (es : List MidiEvent) → AllByRecursion (λ (n : Numbered). n.position ≤ length es) (of_port z es)
 port_within z es = positions_within (length es) z all_zero 0 es (omega arith)
@@ -116,4 +115,4 @@ port_order t z ports k (e ∷ es) h =
     let later : List Numbered = of_port_from z (ports_after ports e) (suc k) es in
     let rest : AreInOrder e.tick (unnumbered later) = port_order e.tick z (ports_after ports e) (suc k) es h.1 in
     either_way (nat_eq (port_of ports e) z) (at_next k e) later (λ xs. AreInOrder t (unnumbered xs)) (h.0, rest)
-        (order_lower t e.tick (unnumbered later) h.0 rest)
+    (order_lower t e.tick (unnumbered later) h.0 rest)

@@ -42,14 +42,20 @@ both_none [] ys h g = g
 both_none (x ∷ xs) ys h g = (h.0, both_none xs ys h.1 g)
 
 bring_none : (c : ℕ) (now wanted : State) → NoNotes (bring c now wanted)
-bring_none c now wanted = bring_holds c NoNote (record { control = λ n v. tt; program = λ p. tt; pressure = λ v. tt; bend = λ v. tt; key =
-    λ k v. tt }) now wanted
+bring_none c now wanted = bring_holds c NoNote (record {
+  control = λ n v. tt;
+  program = λ p. tt;
+  pressure = λ v. tt;
+  bend = λ v. tt;
+  key =
+      λ k v. tt;
+}) now wanted
 
 all_none : (o : Options) (table : Targets) (after out : Music) (hs : List Held) → NoNotes (bring_all o table after out hs)
 all_none o table after out [] = tt
 all_none o table after out (h ∷ hs) =
     both_none (bring h.channel (state_at out h.channel) (wanted o table after h.pair)) (bring_all o table after out hs)
-        (bring_none h.channel (state_at out h.channel) (wanted o table after h.pair)) (all_none o table after out hs)
+    (bring_none h.channel (state_at out h.channel) (wanted o table after h.pair)) (all_none o table after out hs)
 
 send_none : (n v : ℕ) (hs : List Held) → NoNotes (send_all n v hs)
 send_none n v [] = tt
@@ -141,7 +147,7 @@ pub step_channels : NotesFade → (o : Options) (m : Music) (e : MidiEvent) → 
     ≡ note_channels o m.notes ++ begun_channels o e.what
 step_channels law o m e =
     channels_fade o (m.notes ++ begun_by m e.tick (doing e.what)) (step m e).notes (law m e.tick (doing e.what))
-        ∙ channels_append o m.notes (begun_by m e.tick (doing e.what))
+    ∙ channels_append o m.notes (begun_by m e.tick (doing e.what))
     ∙ ap (λ ds. note_channels o m.notes ++ ds) (event_channels o m e.tick e.what)
 
 none_channels : (o : Options) (msg : Msg) → NoNote msg → begun_channels o (Says msg) ≡ []
@@ -161,7 +167,7 @@ quiet_channels law o e [] h m = refl
 quiet_channels law o e (x ∷ xs) h m =
     let y : MidiEvent = record e { what = Says x } in
     quiet_channels law o e xs h.1 (step m y) ∙ step_channels law o m y ∙ ap (λ ds. note_channels o m.notes ++ ds) (none_channels o x h.0)
-        ∙ append-nil (note_channels o m.notes)
+    ∙ append-nil (note_channels o m.notes)
 
 -- ---- a block
 
@@ -226,7 +232,7 @@ Placed port o table k t _ = Unit {0}
 message_block : NotesFade → (port : ℕ) (o : Options) (table : Targets) (k : Moment) (before out : Music) (t track : ℕ) (msg : Msg) →
     Placed port o table k t (Says msg) →
     note_channels o (play out (port_block port o table k before out (said_at t track msg))).notes
-        ≡ note_channels o out.notes ++ channel_begun port o table k.new t (Says msg)
+    ≡ note_channels o out.notes ++ channel_begun port o table k.new t (Says msg)
 message_block law port o table k before out t track msg placed = elim (cases_Bool (is_part o (channel_of msg))) [
   | inr drum ↦ ap (λ es. note_channels o (play out es).notes) (drum_block port o table k before out t track msg drum)
       ∙ step_channels law o out (said_at t track msg) ∙ ap (λ ds. note_channels o out.notes ++ ds) (drum_same msg drum)
@@ -235,7 +241,7 @@ message_block law port o table k before out t track msg placed = elim (cases_Boo
         (part_block port o table k before out t track msg (part_causes port o table k before
         (step before (said_at t track msg)) out t msg) part refl)
         ∙ quiet_channels law o (said_at t track msg) (part_causes port o table k before (step before (said_at t track msg)) out t msg)
-            (part_none port o table k before (step before (said_at t track msg)) out t msg none) out
+        (part_none port o table k before (step before (said_at t track msg)) out t msg none) out
         ∙ sym (append-nil (note_channels o out.notes)) ∙ ap (λ ds. note_channels o out.notes ++ ds) (sym (none_planned port o table k.new t msg none))
     | inr (c, j, v, e) ↦ subst Goal (sym e) (λ p h. struck c j v p h) part placed
   ]
@@ -249,13 +255,13 @@ message_block law port o table k before out t track msg placed = elim (cases_Boo
     struck : (c j v : ℕ) → is_part o c ≡ true → (is_part o c ≡ true → (x : BendTarget) → bend_target_if o.range (table j t) ≡ Some x →
         is_part o (k.new (pair_with port c x)) ≡ true) →
         note_channels o (play out (port_block port o table k before out (said_at t track (NoteOn c j (suc v))))).notes
-            ≡ note_channels o out.notes ++ cond (is_part o c) (on_target port k.new c (bend_target_if o.range (table j t))) []
+        ≡ note_channels o out.notes ++ cond (is_part o c) (on_target port k.new c (bend_target_if o.range (table j t))) []
     struck c j v p h =
         let e : MidiEvent = said_at t track (NoteOn c j (suc v)) in
         ap (λ es. note_channels o (play out es).notes) (part_block port o table k before out t track (NoteOn c j (suc v))
-            (strikes port o table k (step before e) out c (suc v) (bend_target_if o.range (table j t))) p refl)
+        (strikes port o table k (step before e) out c (suc v) (bend_target_if o.range (table j t))) p refl)
         ∙ struck_channels law port o table k (step before e) out e c v (bend_target_if o.range (table j t)) (h p)
-            ∙ ap (λ b. note_channels o out.notes ++ cond b (on_target port k.new c (bend_target_if o.range (table j t))) []) (sym p)
+        ∙ ap (λ b. note_channels o out.notes ++ cond b (on_target port k.new c (bend_target_if o.range (table j t))) []) (sym p)
 
     drum_same : (m : Msg) → is_part o (channel_of m) ≡ false → begun_channels o (Says m) ≡ channel_begun port o table k.new t (Says m)
     drum_same (NoteOn c j zero) h = refl
@@ -271,7 +277,7 @@ message_block law port o table k before out t track msg placed = elim (cases_Boo
 pub block_channels : NotesFade → (port : ℕ) (o : Options) (table : Targets) (k : Moment) (before out : Music) (t track : ℕ) (w : MidiWhat) →
     Placed port o table k t w →
     note_channels o (play out (port_block port o table k before out (port_event t track w))).notes
-        ≡ note_channels o out.notes ++ channel_begun port o table k.new t w
+    ≡ note_channels o out.notes ++ channel_begun port o table k.new t w
 block_channels law port o table k before out t track (Says msg) placed = message_block law port o table k before out t track msg placed
 block_channels law port o table k before out t track (SysexOf lead bytes) placed = step_channels law o out (port_event t track (SysexOf lead bytes))
 block_channels law port o table k before out t track (MetaOf kind bytes) placed = step_channels law o out (port_event t track (MetaOf kind bytes))

@@ -1,5 +1,5 @@
 -- What is given of the runs of a port, at the positions of its file.
-use Rattle.std.specs.Prelude.{◌≡◌, ◌<◌, ◌≤◌, ◌++◌, ℕ, zero, suc, List, [], ◌∷◌, Bool, true, false, nat_eq, nat_le, filter, if◌then◌else◌, Option, Some, None}
+use Rattle.std.specs.Prelude.{◌≡◌, ◌<◌, ◌≤◌, ◌++◌, ℕ, zero, suc, List, [], Bool, true, false, Option, Some, None}
 use Rattle.std.specs.List.{IsDistinct}
 use Rattle.std.specs.Set.{is_member}
 use Rattle.retune_model.specs.Pairs.{Pair, is_same_pair}
@@ -14,7 +14,7 @@ use Rattle.retune_model.specs.Ports.{Numbered}
 use Rattle.channel_model.specs.Choice.{wanted}
 use Rattle.channel_model.specs.BendOutput.{PortRuns}
 use Rattle.retune_model.specs.SourceFaults.{kind_in}
-use Rattle.bend_laws.specs.Moments.{Moment, Both, nothing_yet, port_block, next_both, moment}
+use Rattle.bend_laws.specs.Moments.{Moment, Both, port_block, moment}
 use Rattle.bend_laws.specs.Follows.{Has, SoundAmong, Begins}
 use Rattle.bend_laws.specs.Positions.{port_event, both_at}
 

@@ -27,8 +27,12 @@ pub play_saying : (m : Music) (e : MidiEvent) (xs ys : List Msg) → play m (say
 play_saying m e xs ys = ap (play m) (saying_append e xs ys) ∙ play_append m (saying e xs) (saying e ys)
 
 pub reached_play : (m : Music) (es : List MidiEvent) → AllByRecursion IsValidEvent es → IsReached m → IsReached (play m es)
-reached_play m es v r = record { events = r.events ++ es; valid = all_append IsValidEvent r.events es r.valid v; is = ap (λ x. play x es) r.is
-    ∙ sym (play_append quiet r.events es) }
+reached_play m es v r = record {
+  events = r.events ++ es;
+  valid = all_append IsValidEvent r.events es r.valid v;
+  is = ap (λ x. play x es) r.is
+      ∙ sym (play_append quiet r.events es);
+}
 
 -- valid messages at a tick are valid events
 pub saying_valid : (e : MidiEvent) (ms : List Msg) → e.tick < 2 ^ 28 → AllByRecursion IsValidMsg ms → AllByRecursion IsValidEvent (saying e ms)
@@ -60,7 +64,7 @@ key_pressures_kept : (d : ℕ) (f : Note → Note) → ((n : Note) → (f n).cha
 key_pressures_kept d f same kept ns k zero = refl
 key_pressures_kept d f same kept ns k (suc n) =
     ap (λ x. x ∷ key_pressures (map f ns) d (suc k) n) (key_pressure_kept d k f same kept ns) ∙ ap (λ xs. key_pressure ns d k ∷ xs)
-        (key_pressures_kept d f same kept ns (suc k) n)
+    (key_pressures_kept d f same kept ns (suc k) n)
 
 abbrev state : Channel → List ℕ → State
 state own keys = record { own = own; keys = keys }

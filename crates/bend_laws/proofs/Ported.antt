@@ -1,8 +1,8 @@
 -- What is asked of the runs of a port holds of a source without a fault and a plan of its port.
-use Rattle.std.proofs.Common.{◌≡◌, ◌⊎◌, ◌<◌, ◌≤◌, ◌&&◌, ℕ, zero, suc, ℤ, pos, negsuc, nat_eq, nat_lt, Bool, true, false, cond, List, [], ◌∷◌, Option, Some, None, refl, ap, sym, ◌∙◌, subst, filter, length, get_or, arith, inl, inr}
+use Rattle.std.proofs.Common.{◌≡◌, ◌<◌, ◌≤◌, ◌&&◌, ℕ, zero, suc, ℤ, pos, negsuc, nat_eq, nat_lt, Bool, true, false, cond, List, [], ◌∷◌, Option, Some, None, refl, ap, sym, ◌∙◌, subst, filter, length, get_or, arith, inl, inr}
 use Rattle.std.specs.List.{AllByRecursion, IsDistinct}
 use Rattle.std.specs.Set.{is_member}
-use Rattle.std.proofs.lemmas.Bool.{cases_Bool, both_ways, or_cases, and_left, and_right, and_parts, ne_eqb, ltb-true}
+use Rattle.std.proofs.lemmas.Bool.{both_ways, or_cases, and_left, and_right, and_parts, ne_eqb, ltb-true}
 use Rattle.mt_base.specs.declared.event.Msg.TheVariants.{NoteOn, NoteOff, KeyPressure, Control, Program, Pressure, Bend}
 use Rattle.mt_base.specs.Valid.{IsValidEvent}
 use Rattle.mt_base.specs.Midi.{MidiWhat, Says, SysexOf, MetaOf, MidiEvent}
@@ -11,7 +11,7 @@ use Rattle.midi_model.specs.Notes.{Note, sounds}
 use Rattle.midi_model.specs.Music.{Music}
 use Rattle.retune_model.specs.Table.{BendTarget}
 use Rattle.retune_model.specs.Options.{Options}
-use Rattle.retune_model.specs.Ports.{Numbered, PortEvents, AreTimed, all_zero, of_port, port_at, unnumbered, music_at, event_at, resets}
+use Rattle.retune_model.specs.Ports.{Numbered, PortEvents, all_zero, of_port, port_at, unnumbered, music_at, event_at, resets}
 use Rattle.retune_model.specs.PlaysTheSame.{bend_target_if}
 use Rattle.retune_model.specs.Faults.{Targets, is_part, int_eq, target_of}
 use Rattle.retune_model.specs.SourceFaults.{kind_in, kind_behind}
@@ -19,14 +19,13 @@ use Rattle.retune_model.specs.Pairs.{Part, Pair, is_same_part, is_same_pair, int
 use Rattle.retune_model.specs.PairOrder.{AreOrdered}
 use Rattle.retune_model.specs.Rests.{notes_at, nobody, steps_of, pair_of, pairs_at, held_at, begun_pair, begun_pairs, IsAimedPort}
 use Rattle.retune_model.specs.RestLaws.{PairsAreOfNotes, OneRunBegins, HeldWasThere, SoundingIsHeld, HeldOrBegun, ResetsEndAll}
-use Rattle.retune_model.specs.Need.{ArePairs}
-use Rattle.retune_model.specs.Runs.{since, OneBegins, TakesFree}
+use Rattle.retune_model.specs.Runs.{since, OneBegins}
 use Rattle.retune_model.specs.PortNeed.{pairs_on, held_on}
 use Rattle.retune_model.specs.PortLaws.{PortsAreTimed}
 use Rattle.retune_model.specs.FaultLaws.{SoundPortsAreAimed, FaultlessPorts}
 use Rattle.channel_model.specs.Rows.{used_row, IsBendPlan}
 use Rattle.channel_model.specs.Laws.{ShortestIsFree}
-use Rattle.channel_model.specs.BendOutput.{pair_with, PortRuns, runs_on}
+use Rattle.channel_model.specs.BendOutput.{pair_with, runs_on}
 use Rattle.state_laws.specs.StateLaws.{StaysWellFormedWith}
 use Rattle.bend_laws.specs.Follows.{Has, IsAmong, SoundAmong, Begins}
 use Rattle.bend_laws.specs.Positions.{port_event}
@@ -148,11 +147,11 @@ sound_held law o table port aimed k =
     let ps : List Pair = held_at o (is_part o) table port (suc k) in
     let z : ℕ = port.number in
     all_weaker (λ n. is_part o n.channel ≡ true → sounds n ≡ true → Has ps (pair_of z o table n))
-        (λ n. is_part o n.channel ≡ true → sounds n ≡ true → IsAmong z ps n.channel (target_of o table n))
+    (λ n. is_part o n.channel ≡ true → sounds n ≡ true → IsAmong z ps n.channel (target_of o table n))
     (λ n h part s. among_if z ps n.channel (target_of o table n) (h part s)) (music_at port.events k).notes
     (unfiltered (is_part o) (λ n. sounds n ≡ true → Has ps (pair_of z o table n)) (music_at port.events k).notes
     (by_index (λ n. sounds n ≡ true → Has ps (pair_of z o table n)) (notes_at (is_part o) port.events k)
-        (λ i l s. law o (is_part o) table port aimed k i (l, s))))
+    (λ i l s. law o (is_part o) table port aimed k i (l, s))))
 
 sound_there : HeldWasThere → SoundingIsHeld → (o : Options) (table : Targets) (port : PortEvents) → IsAimedPort o (is_part o) table port → (k : ℕ) →
     SoundAmong port.number o table (pairs_at o (is_part o) table port k) (music_at port.events k).notes
@@ -171,10 +170,17 @@ begun_if : (z : ℕ) (o : Options) (t c j v : ℕ) (table : Targets) (x : Option
     Begins z o table t (Says (NoteOn c j (suc v))) p
 begun_if z o t c j v table x p aim false part h = absurd (both_ways false refl h)
 begun_if z o t c j v table None p aim true part h = absurd (both_ways false refl h)
-begun_if z o t c j v table (Some y) p aim true part h = (part, (y, aim, elim (or_cases (is_same_pair p (pair_with z c y)) false h) [
-  | inl e ↦ same_pair p (pair_with z c y) e
-  | inr e ↦ absurd (both_ways false refl e)
-]))
+begun_if z o t c j v table (Some y) p aim true part h = (
+  part,
+  (
+    y,
+    aim,
+    elim (or_cases (is_same_pair p (pair_with z c y)) false h) [
+      | inl e ↦ same_pair p (pair_with z c y) e
+      | inr e ↦ absurd (both_ways false refl e)
+    ],
+  ),
+)
 
 begins_pair : (z : ℕ) (o : Options) (table : Targets) (t : ℕ) (w : MidiWhat) (p : Pair) → Has (begun_pair z o (is_part o) table t w) p →
     Begins z o table t w p
@@ -220,7 +226,7 @@ timely_port timed o allowed table es need channel b z =
 valid_port : (es : List MidiEvent) → AllByRecursion IsValidEvent es → (z last : ℕ) → AreValidTo (of_port z es) last
 valid_port es v z last k e low is =
     let s : StandsAt (λ n. IsValidEvent n.event) (suc k) e = at_place (λ n. IsValidEvent n.event) (of_port z es)
-        (each (of_port z es) (all_of_port IsValidEvent z all_zero 0 es v)) (suc k) e is in
+    (each (of_port z es) (all_of_port IsValidEvent z all_zero 0 es v)) (suc k) e is in
     subst IsValidEvent s.event s.holds
   where
     each : (ns : List Numbered) → AllByRecursion IsValidEvent (unnumbered ns) → AllByRecursion (λ (n : Numbered). IsValidEvent n.event) ns
@@ -231,11 +237,11 @@ valid_port es v z last k e low is =
 pub placed_on : PortFacts → (o : Options) (allowed : ℕ → Bool) (table : Targets) (es : List MidiEvent) (need : ℕ → ℕ)
     (channel : ℕ → ℕ → Pair → ℕ) → IsBent o allowed table es need channel → (z instant : ℕ) (row : ℕ → ℕ) →
     IsBendPlan o allowed table es z (need z) instant row (channel z) → (k : ℕ) → k ≤ length es → HasPlaces (pairs_on o (is_part o) table es z)
-        (need z) row k
+    (need z) row k
 placed_on f o allowed table es need channel b z instant row plan =
     has_places (pairs_on o (is_part o) table es z) (length es) (need z) row
     (f.one o (is_part o) table (port_at es z) (length es) (f.aimed o (is_part o) table es z (λ c h. h) b.sound))
-        (f.free o table es z (need z) row plan.takes)
+    (f.free o table es z (need z) row plan.takes)
 
 pub planned_port : PortFacts → (o : Options) (allowed : ℕ → Bool) (table : Targets) (es : List MidiEvent) (need : ℕ → ℕ)
     (channel : ℕ → ℕ → Pair → ℕ) → IsBent o allowed table es need channel → (z : ℕ) →
@@ -262,7 +268,7 @@ planned_port f o allowed table es need channel b z =
           let P : Numbered → Type 0 = λ m. (j : ℕ) → m.position ≡ suc j → kind_behind o table false port j m.event ≡ None in
           let s : StandsAt P (suc k) e = at_place P ns (f.fine o table es z b.sound.faultless) (suc k) e is in
           let here : kind_behind o table false port k e ≡ None =
-              subst (λ x. kind_behind o table false port k x ≡ None) s.event (s.holds k s.position) in
+          subst (λ x. kind_behind o table false port k x ≡ None) s.event (s.holds k s.position) in
           subst (λ m. kind_in z o table e.tick m (source_at ns (suc k)) false (at (suc k)) e.what ≡ None) (src k)
           (subst (λ m. kind_in z o table e.tick (music_at ns k) m false (at (suc k)) e.what ≡ None) (src (suc k)) here));
       start = one.none;
@@ -280,7 +286,7 @@ planned_port f o allowed table es need channel b z =
       kept = λ k p low h g. it.plan.given (suc k) p ∙ ap (λ j. get_or used (it.row j) 0) (since_kept at p k h) ∙ sym (it.plan.given k p);
       apart = λ k p q low h g e. (placed k low).apart p q h g
           (lane_apart o allowed n it.plan.within (it.row (since is_same_pair at p k)) (it.row (since is_same_pair at q k))
-              ((placed k low).below p h) ((placed k low).below q g)
+          ((placed k low).below p h) ((placed k low).below q g)
           (sym (it.plan.given k p) ∙ e ∙ it.plan.given k q));
       used_at = λ k p low h. subst (λ c. uses o allowed n c ≡ true) (sym (it.plan.given k p))
           (lane_used o allowed n it.plan.within (it.row (since is_same_pair at p k)) ((placed k low).below p h));

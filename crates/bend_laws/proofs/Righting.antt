@@ -58,8 +58,14 @@ bring_right : (Good : State → Type 0) → BringReaches Good → (o : Options) 
 bring_right Good law o used out c w reached low part u good =
     let P : Msg → Type 0 = λ m. (is_part o (channel_of m) ≡ true) × (used (channel_of m) ≡ true) in
     all_both IsValidMsg P (bring c (state_at out c) w) (law.valid out c w reached low good)
-    (bring_holds c P (record { control = λ n v. (part, u); program = λ p. (part, u); pressure = λ v. (part, u); bend = λ v. (part, u); key =
-        λ k v. (part, u) }) (state_at out c) w)
+    (bring_holds c P (record {
+      control = λ n v. (part, u);
+      program = λ p. (part, u);
+      pressure = λ v. (part, u);
+      bend = λ v. (part, u);
+      key =
+          λ k v. (part, u);
+    }) (state_at out c) w)
 
 all_right : (Good : State → Type 0) → BringReaches Good → (o : Options) (table : Targets) (used : ℕ → Bool) (after out : Music) → IsReached out →
     ((p : Pair) → Good (wanted o table after p)) → (hs : List Held) → AllByRecursion (IsUsedOne o used) hs →
@@ -68,13 +74,15 @@ all_right Good law o table used after out reached good [] can = tt
 all_right Good law o table used after out reached good (h ∷ hs) can =
     all_append (IsRight o used) (bring h.channel (state_at out h.channel) (wanted o table after h.pair)) (bring_all o table after out hs)
     (bring_right Good law o used out h.channel (wanted o table after h.pair) reached can.0.channel can.0.part can.0.used_one (good h.pair))
-        (all_right Good law o table used after out reached good hs can.1)
+    (all_right Good law o table used after out reached good hs can.1)
 
 sent_right : (o : Options) (used : ℕ → Bool) (n v : ℕ) → n ≤ 127 → v ≤ 127 → (hs : List Held) → AllByRecursion (IsUsedOne o used) hs →
     AllByRecursion (IsRight o used) (send_all n v hs)
 sent_right o used n v low small [] can = tt
-sent_right o used n v low small (h ∷ hs) can = (((omega (arith, can.0.channel), low, small), (can.0.part, can.0.used_one)),
-    sent_right o used n v low small hs can.1)
+sent_right o used n v low small (h ∷ hs) can = (
+  ((omega (arith, can.0.channel), low, small), (can.0.part, can.0.used_one)),
+  sent_right o used n v low small hs can.1,
+)
 
 -- ---- a part's block
 
@@ -123,20 +131,20 @@ setup_right Good laws port o table used row k b e h p u false = bring_right Good
 strikes_right : (Good : State → Type 0) → Laws Good → (port : ℕ) (o : Options) (table : Targets) (used : ℕ → Bool) → AreUsed o used → (k : Moment)
     (b : Both) (e : MidiEvent) → Known Good port o table used k b e → (c v : ℕ) → v ≤ 127 → (x : Option BendTarget) →
     ((t : BendTarget) → x ≡ Some t → (t.key < 128) × (used (k.new (pair_with port c t)) ≡ true)) → AllByRecursion (IsRight o used)
-        (strikes port o table k (step b.source e) b.out c v x)
+    (strikes port o table k (step b.source e) b.out c v x)
 strikes_right Good laws port o table used row k b e h c v small None there = tt
 strikes_right Good laws port o table used row k b e h c v small (Some t) there =
     let p : Pair = pair_with port c t in
     let u : used (k.new p) ≡ true = (there t refl).1 in
     all_append (IsRight o used) (setup o table k (step b.source e) b.out p (is_member is_same_pair k.was p)) (NoteOn (k.new p) t.key v ∷ [])
-        (setup_right Good laws port o table used row k b e h p u (is_member is_same_pair k.was p))
+    (setup_right Good laws port o table used row k b e h p u (is_member is_same_pair k.was p))
     (((omega (arith, row.channel (k.new p) u), omega (arith, (there t refl).0), small), (row.retuned (k.new p) u, u)), tt)
 
 -- a note off, of either kind
 released_right : (Good : State → Type 0) (port : ℕ) (o : Options) (table : Targets) (used : ℕ → Bool) → AreUsed o used → (k : Moment) (b : Both)
     (e : MidiEvent) → Known Good port o table used k b e → (off : ℕ → ℕ → Msg) →
     ((d i : ℕ) → d < 16 → i < 128 → (is_part o d ≡ true) × (used d ≡ true) → IsRight o used (off d i)) → (c j : ℕ) → is_part o c ≡ true →
-        (x : Option Note) → pressed_note c j b.source.notes ≡ x → AllByRecursion (IsRight o used) (note_released port o table k.old off c x)
+    (x : Option Note) → pressed_note c j b.source.notes ≡ x → AllByRecursion (IsRight o used) (note_released port o table k.old off c x)
 released_right Good port o table used row k b e h off right c j part None is = tt
 released_right Good port o table used row k b e h off right c j part (Some n) is = pick (target_of o table n) refl
   where
@@ -147,28 +155,33 @@ released_right Good port o table used row k b e h off right c j part (Some n) is
     pick None aim = tt
     pick (Some t) aim =
         let held = pressed_element (λ a. is_part o a.channel ≡ true → sounds a ≡ true →
-            IsAmong port k.holds a.channel (target_of o table a)) c j b.source.notes n h.sound.held is in
+        IsAmong port k.holds a.channel (target_of o table a)) c j b.source.notes n h.sound.held is in
         let here : n.channel ≡ c = at_channel c j n held.1 in
         let there : Has k.holds (pair_with port c t) = subst (λ q. Has k.holds (pair_with port q t)) here
-            (subst (IsAmong port k.holds n.channel) aim (held.0 (ap (is_part o) here ∙ part) (sounds_down n held.2))) in
-        let u : used (k.old (pair_with port c t)) ≡ true = h.sound.used_was (pair_with port c t) (h.sound.was_there (pair_with port c t) there) in
-        (right (k.old (pair_with port c t)) t.key (row.channel (k.old (pair_with port c t)) u) (aim_fits o.range (table n.key n.onset) t aim)
-            (row.retuned (k.old (pair_with port c t)) u, u), tt)
+        (subst (IsAmong port k.holds n.channel) aim (held.0 (ap (is_part o) here ∙ part) (sounds_down n held.2))) in
+        let u : used (k.old (pair_with port c t)) ≡ true = h.sound.used_was (pair_with port c t) (h.sound.was_there (pair_with port c t) there) in (
+          right (k.old (pair_with port c t)) t.key (row.channel (k.old (pair_with port c t)) u) (aim_fits o.range (table n.key n.onset) t aim)
+              (row.retuned (k.old (pair_with port c t)) u, u),
+          tt,
+        )
 
 part_right : (Good : State → Type 0) → Laws Good → (port : ℕ) (o : Options) (table : Targets) (used : ℕ → Bool) → AreUsed o used → (k : Moment)
     (b : Both) (t track : ℕ) (msg : Msg) → Known Good port o table used k b (said_at t track msg) → is_part o (channel_of msg) ≡ true →
     AllByRecursion (IsRight o used) (part_causes port o table k b.source (step b.source (said_at t track msg)) b.out t msg)
 part_right Good laws port o table used row k b t track (NoteOn c j zero) h part =
     released_right Good port o table used row k b (said_at t track (NoteOn c j zero)) h (λ d i. NoteOn d i zero)
-        (λ d i low key p. ((omega (arith, low), omega (arith, key), omega arith), p)) c j part (pressed_note c j b.source.notes) refl
+    (λ d i low key p. ((omega (arith, low), omega (arith, key), omega arith), p)) c j part (pressed_note c j b.source.notes) refl
 part_right Good laws port o table used row k b t track (NoteOn c j (suc v)) h part =
     strikes_right Good laws port o table used row k b (said_at t track (NoteOn c j (suc v))) h c (suc v) h.sound.valid.what.2
-        (bend_target_if o.range (table j t))
-    (λ x aim. (aim_fits o.range (table j t) x aim, h.sound.used_is (pair_with port c x)
-        (begun_there Good port o table used k.old k.was k b t track c j v h.follows h.sound part x aim)))
+    (bend_target_if o.range (table j t))
+    (λ x aim. (
+      aim_fits o.range (table j t) x aim,
+      h.sound.used_is (pair_with port c x)
+          (begun_there Good port o table used k.old k.was k b t track c j v h.follows h.sound part x aim),
+    ))
 part_right Good laws port o table used row k b t track (NoteOff c j v) h part =
     released_right Good port o table used row k b (said_at t track (NoteOff c j v)) h (λ d i. NoteOff d i v)
-        (λ d i low key p. ((omega (arith, low), omega (arith, key), h.sound.valid.what.2), p)) c j part (pressed_note c j b.source.notes) refl
+    (λ d i low key p. ((omega (arith, low), omega (arith, key), h.sound.valid.what.2), p)) c j part (pressed_note c j b.source.notes) refl
 part_right Good laws port o table used row k b t track (Control c n v) h part =
     controller_right Good laws port o table used row k b (said_at t track (Control c n v)) h c n v h.sound.valid.what.1 h.sound.valid.what.2
     (role n)
@@ -209,7 +222,7 @@ Shaped o used e block = IsOther o e block ⊎ IsCaused o used e block
 block_shaped : (Good : State → Type 0) → Laws Good → (port : ℕ) (o : Options) (table : Targets) (used : ℕ → Bool) → AreUsed o used → (k : Moment)
     (b : Both) (t track : ℕ) (w : MidiWhat) →
     (let e : MidiEvent = record { tick = t; track = track; what = w } in Known Good port o table used k b e →
-        Shaped o used e (port_block port o table k b.source b.out e))
+    Shaped o used e (port_block port o table k b.source b.out e))
 block_shaped Good laws port o table used row k b t track (Says msg) h = elim (cases_Bool (is_part o (channel_of msg))) [
   | inl part ↦ inr (record {
     message = msg;
@@ -220,8 +233,11 @@ block_shaped Good laws port o table used row k b t track (Says msg) h = elim (ca
         (step b.source (said_at t track msg)) b.out t msg) part refl;
     right = part_right Good laws port o table used row k b t track msg h part;
   })
-  | inr drum ↦ inl (record { is = drum_block port o table k b.source b.out t track msg drum; other = λ m h. ap (λ w. is_part o (channel_in msg w))
-      (sym h) ∙ drum })
+  | inr drum ↦ inl (record {
+    is = drum_block port o table k b.source b.out t track msg drum;
+    other = λ m h. ap (λ w. is_part o (channel_in msg w))
+        (sym h) ∙ drum;
+  })
 ]
 block_shaped Good laws port o table used row k b t track (SysexOf lead bytes) h = inl (record { is = refl; other = λ m g. absurd cc })
 block_shaped Good laws port o table used row k b t track (MetaOf kind bytes) h = inl (record { is = refl; other = λ m g. absurd cc })
@@ -232,10 +248,10 @@ pub shaped_at : (Good : State → Type 0) → Laws Good → (o : Options) (table
     Shaped o used e (port_block plan.number o table (moment plan k) (both_at o table plan ns k).source (both_at o table plan ns k).out e)
 shaped_at Good laws o table used row plan ns last given k low e is = block_shaped Good laws plan.number o table used row (moment plan k)
     (both_at o table plan ns k) e.tick e.track e.what (record {
-  follows = follows_at Good laws o table used row plan ns last given k (omega (arith, low));
-  sound = subst (λ m. IsGiven Good plan.number o table used (moment plan k) m e) (sym (source_is o table plan ns k))
-      (sound_at Good o table used plan ns last given k low e is);
-})
+      follows = follows_at Good laws o table used row plan ns last given k (omega (arith, low));
+      sound = subst (λ m. IsGiven Good plan.number o table used (moment plan k) m e) (sym (source_is o table plan ns k))
+          (sound_at Good o table used plan ns last given k low e is);
+    })
 
 -- ---- all is valid
 
@@ -251,7 +267,7 @@ valid_to : (Good : State → Type 0) → Laws Good → (o : Options) (table : Ta
 valid_to Good laws o table used row plan ns last given zero low = tt
 valid_to Good laws o table used row plan ns last given (suc k) low =
     all_append IsValidEvent (blocks_to o table plan ns k) (block_if plan.number o table (moment plan k) (both_at o table plan ns k)
-        (port_event ns (suc k))) (valid_to Good laws o table used row plan ns last given k (omega (arith, low))) (go (port_event ns (suc k)) refl)
+    (port_event ns (suc k))) (valid_to Good laws o table used row plan ns last given k (omega (arith, low))) (go (port_event ns (suc k)) refl)
   where
     go : (x : Option MidiEvent) → port_event ns (suc k) ≡ x → AllByRecursion IsValidEvent (block_if plan.number o table (moment plan k)
         (both_at o table plan ns k) x)
@@ -265,7 +281,7 @@ pub output_valid : (Good : State → Type 0) → Laws Good → (o : Options) (ta
     AllByRecursion IsValidEvent (port_output o table plan quiet quiet ns)
 output_valid Good laws o table used row plan ns last given timely =
     subst (AllByRecursion IsValidEvent) (all_blocks o table plan ns last timely)
-        (valid_to Good laws o table used row plan ns last given last (omega arith))
+    (valid_to Good laws o table used row plan ns last given last (omega arith))
 
 -- ---- the channels that are spoken to
 
@@ -285,7 +301,7 @@ used_to : (Good : State → Type 0) → Laws Good → (o : Options) (table : Tar
 used_to Good laws o table used row plan ns last given zero low = tt
 used_to Good laws o table used row plan ns last given (suc k) low =
     all_append (IsOnUsed o used) (blocks_to o table plan ns k) (block_if plan.number o table (moment plan k) (both_at o table plan ns k)
-        (port_event ns (suc k)))
+    (port_event ns (suc k)))
     (used_to Good laws o table used row plan ns last given k (omega (arith, low))) (go (port_event ns (suc k)) refl)
   where
     go : (x : Option MidiEvent) → port_event ns (suc k) ≡ x → AllByRecursion (IsOnUsed o used)
@@ -299,7 +315,7 @@ pub output_used : (Good : State → Type 0) → Laws Good → (o : Options) (tab
     AllByRecursion (IsOnUsed o used) (port_output o table plan quiet quiet ns)
 output_used Good laws o table used row plan ns last given timely =
     subst (AllByRecursion (IsOnUsed o used)) (all_blocks o table plan ns last timely)
-        (used_to Good laws o table used row plan ns last given last (omega arith))
+    (used_to Good laws o table used row plan ns last given last (omega arith))
 
 -- ---- kept drums
 
@@ -316,7 +332,7 @@ shaped_drums o used keep track e block (inl h) = ap (kept is_drum_message track)
 shaped_drums o used keep track e block (inr h) =
     ap (kept is_drum_message track) h.is
     ∙ kept_none is_drum_message track e (map Says h.messages) (all_mapped (λ w. is_drum_message w ≡ false) Says (IsRight o used)
-        (λ m r. no_drum o (channel_of m) keep r.1.0) h.messages h.right)
+    (λ m r. no_drum o (channel_of m) keep r.1.0) h.messages h.right)
     ∙ sym (kept_none is_drum_message track e (e.what ∷ []) (ap is_drum_message h.what ∙ no_drum o (channel_of h.message) keep h.part, tt))
 
 drums_to : (Good : State → Type 0) → Laws Good → (o : Options) (table : Targets) (used : ℕ → Bool) → AreUsed o used → (plan : PortRuns)
@@ -326,9 +342,9 @@ drums_to Good laws o table used row plan ns last given rising keep track zero lo
     (none_yet 0 ns rising 0 (omega arith)))
 drums_to Good laws o table used row plan ns last given rising keep track (suc k) low =
     kept_append is_drum_message track (blocks_to o table plan ns k) (block_if plan.number o table (moment plan k) (both_at o table plan ns k)
-        (port_event ns (suc k)))
+    (port_event ns (suc k)))
     ∙ ap (λ xs. xs ++ kept is_drum_message track (block_if plan.number o table (moment plan k) (both_at o table plan ns k)
-        (port_event ns (suc k)))) (drums_to Good laws o table used row plan ns last given rising keep track k (omega (arith, low)))
+    (port_event ns (suc k)))) (drums_to Good laws o table used row plan ns last given rising keep track k (omega (arith, low)))
     ∙ ap (λ ys. kept is_drum_message track (unnumbered (up_to_position k ns)) ++ ys) (go (port_event ns (suc k)) refl)
     ∙ sym (kept_append is_drum_message track (unnumbered (up_to_position k ns)) (events_if (port_event ns (suc k))))
     ∙ sym (ap (kept is_drum_message track) (events_longer ns rising k))
@@ -345,7 +361,7 @@ pub port_drums : (Good : State → Type 0) → Laws Good → (o : Options) (tabl
     drum_events track (port_output o table plan quiet quiet ns) ≡ drum_events track (unnumbered ns)
 port_drums Good laws o table used row plan ns last given timely keep track =
     ap (kept is_drum_message track) (sym (all_blocks o table plan ns last timely))
-        ∙ drums_to Good laws o table used row plan ns last given timely.rising keep track last (omega arith)
+    ∙ drums_to Good laws o table used row plan ns last given timely.rising keep track last (omega arith)
     ∙ ap (λ xs. kept is_drum_message track (unnumbered xs)) (all_up last ns timely.within)
 
 pub keeps_all_drums : (Good : State → Type 0) → Laws Good → (o : Options) (table : Targets) (used : ℕ → Bool) → AreUsed o used → (plan : PortRuns)

@@ -1,5 +1,5 @@
 -- The used row of a port: channels of parts, in ascending order.
-use Rattle.std.proofs.Common.{◌≡◌, ◌<◌, ◌≤◌, ◌+◌, ℕ, zero, suc, Bool, true, false, ◌&&◌, List, [], ◌∷◌, refl, ap, sym, ◌∙◌, subst, filter, take, length, get_or, nat_eq, arith, inl, inr}
+use Rattle.std.proofs.Common.{◌≡◌, ◌<◌, ◌≤◌, ◌+◌, ℕ, zero, suc, Bool, true, false, ◌&&◌, List, [], ◌∷◌, refl, ap, sym, subst, filter, take, length, get_or, nat_eq, arith, inl, inr}
 use Rattle.std.specs.List.{AllByRecursion}
 use Rattle.std.specs.Set.{is_member}
 use Rattle.std.proofs.lemmas.Bool.{both_ways, or_cases, or_left, or_right, eq-eqb, eqb-true, and_parts, cond_both}
@@ -80,10 +80,10 @@ index_apart a [] h i j l m e = absurd (omega (arith, l))
 index_apart a (c ∷ cs) h zero zero l m e = refl
 index_apart a (c ∷ cs) h zero (suc j) l m e =
     absurd (let g : suc c ≤ get_or cs j 0 = at_index (λ d. suc c ≤ d) cs j (all_above (suc c) cs h.1)
-        (omega (arith, m)) in let f : c ≡ get_or cs j 0 = e in omega (arith, g, f))
+    (omega (arith, m)) in let f : c ≡ get_or cs j 0 = e in omega (arith, g, f))
 index_apart a (c ∷ cs) h (suc i) zero l m e =
     absurd (let g : suc c ≤ get_or cs i 0 = at_index (λ d. suc c ≤ d) cs i (all_above (suc c) cs h.1)
-        (omega (arith, l)) in let f : get_or cs i 0 ≡ c = e in omega (arith, g, f))
+    (omega (arith, l)) in let f : get_or cs i 0 ≡ c = e in omega (arith, g, f))
 index_apart a (c ∷ cs) h (suc i) (suc j) l m e = ap suc (index_apart (suc c) cs h.1 i j (omega (arith, l)) (omega (arith, m)) e)
 
 -- ---- the row
@@ -115,4 +115,4 @@ pub lane_apart : (o : Options) (allowed : ℕ → Bool) (n : ℕ) → n ≤ leng
     get_or (used_row o allowed n) i 0 ≡ get_or (used_row o allowed n) j 0 → i ≡ j
 lane_apart o allowed n h i j l m e =
     index_apart 0 (used_row o allowed n) (row_rises o allowed n) i j (subst (λ k. i < k) (sym (row_length o allowed n h)) l)
-        (subst (λ k. j < k) (sym (row_length o allowed n h)) m) e
+    (subst (λ k. j < k) (sym (row_length o allowed n h)) m) e

@@ -1,5 +1,5 @@
 -- The places of runs, over any sequence of sets of pairs in which at most one run begins at a position.
-use Rattle.std.proofs.Common.{◌≡◌, ◌<◌, ◌≤◌, ℕ, zero, suc, Bool, true, false, not, List, [], ap, sym, ◌∙◌, subst, arith, inl, inr}
+use Rattle.std.proofs.Common.{◌≡◌, ◌<◌, ◌≤◌, ℕ, zero, suc, true, false, not, List, ap, sym, ◌∙◌, subst, arith, inl, inr}
 use Rattle.std.specs.Set.{is_member}
 use Rattle.std.proofs.lemmas.Bool.{cases_Bool, both_ways, cond-true, cond-false, and_from, not_from_false}
 use Rattle.retune_model.specs.Pairs.{Pair, is_same_pair}
@@ -25,7 +25,7 @@ pub has_places : (at : ℕ → List Pair) (last n : ℕ) (places : ℕ → ℕ) 
     (k : ℕ) → k ≤ last → HasPlaces at n places k
 has_places at last n places one takes zero low =
     let nobody : (p : Pair) → Has (at 0) p → ⊥ = λ p m. both_ways (is_member is_same_pair (at 0) p)
-        (ap (λ xs. is_member is_same_pair xs p) one.none) m in
+    (ap (λ xs. is_member is_same_pair xs p) one.none) m in
     record { below = λ p m. absurd (nobody p m); apart = λ p q m o e. absurd (nobody p m) }
 has_places at last n places one takes (suc k) low =
     let before : HasPlaces at n places k = has_places at last n places one takes k (omega arith) in

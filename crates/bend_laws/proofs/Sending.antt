@@ -51,8 +51,10 @@ ended_over : (t h : ℕ) (r : Option (ℕ × ℕ)) (k : Bool) (e : Option ℕ) �
 ended_over t h r k None = refl
 ended_over t h r k (Some e) = refl
 
-settle_form : (ss : List Channel) (t : ℕ) (n : Note) → settle_note ss no_zones t n ≡ record n { ended =
-    over_at t n.release n.captured (pedal ss no_zones n) n.ended }
+settle_form : (ss : List Channel) (t : ℕ) (n : Note) → settle_note ss no_zones t n ≡ record n {
+  ended =
+      over_at t n.release n.captured (pedal ss no_zones n) n.ended;
+}
 settle_form ss t n = lifted_form ss t 0 n false
 
 pub settle_ended : (ss : List Channel) (t : ℕ) (n : Note) → settle_note ss no_zones t (ending t n) ≡ ending t n
@@ -64,7 +66,7 @@ silent_sent : (r : Role) (t h : ℕ) (n : Note) → sounds n ≡ false → sent 
 silent_sent AllSoundOff t h n s = ap (λ b. cond b (record n { ended = Some t }) n) s
 silent_sent AllNotesOff t h n s =
     ap (λ b. lifted t 64 b h n) (ap (λ b. b && not (is_some n.release)) s) ∙ ap (λ e. let y : Note = record n { ended = e } in y)
-        (silent_over t h n.release n.captured n.ended s)
+    (silent_over t h n.release n.captured n.ended s)
 silent_sent Stored t h n s = refl
 silent_sent EntryHigh t h n s = refl
 silent_sent EntryLow t h n s = refl
@@ -149,9 +151,13 @@ pub record IsAfterSent (r : Role) (d t : ℕ) (m x : Music) : Type 0 where
 abbrev after_role : Music → ℕ → ℕ → ℕ → ℕ → Role → Music
 after_role m t c n v r =
     let ss : List Channel = bend_ranges (asked_by m c v r) (zones_with (asked_by m c v r) m.zones)
-        (set m.channels c (controlled (channel_at m c) n v r)) in
-    record { channels = ss; zones = zones_with (asked_by m c v r) m.zones; notes = map (settle_note ss (zones_with (asked_by m c v r) m.zones) t)
-        (notes_turned m t c n v r) }
+    (set m.channels c (controlled (channel_at m c) n v r)) in
+    record {
+      channels = ss;
+      zones = zones_with (asked_by m c v r) m.zones;
+      notes = map (settle_note ss (zones_with (asked_by m c v r) m.zones) t)
+          (notes_turned m t c n v r);
+    }
 
 abbrev with_notes : Music → (Note → Note) → Music
 with_notes m f = record { channels = m.channels; zones = no_zones; notes = map f m.notes }
@@ -159,34 +165,62 @@ with_notes m f = record { channels = m.channels; zones = no_zones; notes = map f
 off_music : (m : Music) (t c n v : ℕ) → m.zones ≡ no_zones → after_role m t c n v AllSoundOff
     ≡ with_notes m (λ x. settle_note m.channels no_zones t (end_all t no_zones c x))
 off_music m t c n v z =
-    ap (λ w. let x : Music = record { channels = set m.channels c (channel_at m c); zones = w; notes =
-        map (settle_note (set m.channels c (channel_at m c)) w t) (map (end_all t w c) m.notes) } in x) z
-    ∙ ap (λ ss. let x : Music = record { channels = ss; zones = no_zones; notes = map (settle_note ss no_zones t)
-        (map (end_all t no_zones c) m.notes) } in x) (set-get_or m.channels c default_channel)
+    ap (λ w. let x : Music = record {
+      channels = set m.channels c (channel_at m c);
+      zones = w;
+      notes =
+          map (settle_note (set m.channels c (channel_at m c)) w t) (map (end_all t w c) m.notes);
+    } in x) z
+    ∙ ap (λ ss. let x : Music = record {
+      channels = ss;
+      zones = no_zones;
+      notes = map (settle_note ss no_zones t)
+          (map (end_all t no_zones c) m.notes);
+    } in x) (set-get_or m.channels c default_channel)
     ∙ ap (λ ns. let x : Music = record { channels = m.channels; zones = no_zones; notes = ns } in x)
-        (map_map (settle_note m.channels no_zones t) (end_all t no_zones c) m.notes)
+    (map_map (settle_note m.channels no_zones t) (end_all t no_zones c) m.notes)
 
 up_music : (m : Music) (t c n v : ℕ) → m.zones ≡ no_zones → after_role m t c n v AllNotesOff
     ≡ with_notes m (λ x. settle_note m.channels no_zones t (release_all t no_zones c x))
 up_music m t c n v z =
-    ap (λ w. let x : Music = record { channels = set m.channels c (channel_at m c); zones = w; notes =
-        map (settle_note (set m.channels c (channel_at m c)) w t) (map (release_all t w c) m.notes) } in x) z
-    ∙ ap (λ ss. let x : Music = record { channels = ss; zones = no_zones; notes = map (settle_note ss no_zones t)
-        (map (release_all t no_zones c) m.notes) } in x) (set-get_or m.channels c default_channel)
+    ap (λ w. let x : Music = record {
+      channels = set m.channels c (channel_at m c);
+      zones = w;
+      notes =
+          map (settle_note (set m.channels c (channel_at m c)) w t) (map (release_all t w c) m.notes);
+    } in x) z
+    ∙ ap (λ ss. let x : Music = record {
+      channels = ss;
+      zones = no_zones;
+      notes = map (settle_note ss no_zones t)
+          (map (release_all t no_zones c) m.notes);
+    } in x) (set-get_or m.channels c default_channel)
     ∙ ap (λ ns. let x : Music = record { channels = m.channels; zones = no_zones; notes = ns } in x)
-        (map_map (settle_note m.channels no_zones t) (release_all t no_zones c) m.notes)
+    (map_map (settle_note m.channels no_zones t) (release_all t no_zones c) m.notes)
 
 role_sent : (m : Music) (t c n v : ℕ) (r : Role) → IsSent r → m.zones ≡ no_zones → IsSettled m → IsAfterSent r c t m (after_role m t c n v r)
 role_sent m t c n v AllSoundOff i z s =
     let f : Note → Note = λ x. settle_note m.channels no_zones t (end_all t no_zones c x) in
     subst (IsAfterSent AllSoundOff c t m) (sym (off_music m t c n v z))
-    (record { turn = f; notes = refl; each = all_weaker (Stays m.channels) (λ x. IsSentOn AllSoundOff c t (control_of (channel_at m c) 64) x (f x))
-        (sent_off m c t) m.notes (all_stay m z s); channels = refl; zones = refl })
+    (record {
+      turn = f;
+      notes = refl;
+      each = all_weaker (Stays m.channels) (λ x. IsSentOn AllSoundOff c t (control_of (channel_at m c) 64) x (f x))
+          (sent_off m c t) m.notes (all_stay m z s);
+      channels = refl;
+      zones = refl;
+    })
 role_sent m t c n v AllNotesOff i z s =
     let f : Note → Note = λ x. settle_note m.channels no_zones t (release_all t no_zones c x) in
     subst (IsAfterSent AllNotesOff c t m) (sym (up_music m t c n v z))
-    (record { turn = f; notes = refl; each = all_weaker (Stays m.channels) (λ x. IsSentOn AllNotesOff c t (control_of (channel_at m c) 64) x (f x))
-        (sent_up m c t) m.notes (all_stay m z s); channels = refl; zones = refl })
+    (record {
+      turn = f;
+      notes = refl;
+      each = all_weaker (Stays m.channels) (λ x. IsSentOn AllNotesOff c t (control_of (channel_at m c) 64) x (f x))
+          (sent_up m c t) m.notes (all_stay m z s);
+      channels = refl;
+      zones = refl;
+    })
 role_sent m t c n v Stored i z s = absurd i
 role_sent m t c n v EntryHigh i z s = absurd i
 role_sent m t c n v EntryLow i z s = absurd i
@@ -254,8 +288,15 @@ all_unmap P f (n ∷ ns) h = (h.0, all_unmap P f ns h.1)
 pub all_sent : EventsSettle → (e : MidiEvent) (n v : ℕ) → e.tick < 2 ^ 28 → n ≤ 127 → v ≤ 127 → IsSent (role n) → (out : Music) (hs : List Held) →
     OnOwnChannels hs → AllByRecursion (λ h. h.channel < 16) hs → (m : Music) → m.zones ≡ no_zones → IsReached m → m.channels ≡ out.channels →
     AreSent (role n) e.tick out hs m (play m (saying e (send_all n v hs)))
-all_sent law e n v tick low small i out [] d cs m z r s = record { turn = λ x. x; notes = sym (map_same (λ x. x) (λ x. refl) m.notes); each =
-    all_itself m.notes; channels = refl; zones = z; reached = r }
+all_sent law e n v tick low small i out [] d cs m z r s = record {
+  turn = λ x. x;
+  notes = sym (map_same (λ x. x) (λ x. refl) m.notes);
+  each =
+      all_itself m.notes;
+  channels = refl;
+  zones = z;
+  reached = r;
+}
   where
     all_itself : (ns : List Note) → AllByRecursion (λ x. IsSentAll (role n) e.tick out [] x x) ns
     all_itself [] = tt
@@ -265,12 +306,12 @@ all_sent law e n v tick low small i out (g ∷ gs) d cs m z r s =
     let one : IsAfterSent (role n) g.channel e.tick m x = after_sent m e.tick g.channel n v i z (settled_reached law m r) in
     let rest : AreSent (role n) e.tick out gs x (play x (saying e (send_all n v gs))) =
     all_sent law e n v tick low small i out gs d.1 cs.1 x one.zones (reached_play m (saying e (Control g.channel n v ∷ []))
-        (saying_valid e (Control g.channel n v ∷ []) tick ((omega (arith, cs.0), low, small), tt)) r) (one.channels ∙ s) in
+    (saying_valid e (Control g.channel n v ∷ []) tick ((omega (arith, cs.0), low, small), tt)) r) (one.channels ∙ s) in
     let own : control_of (channel_at m g.channel) 64 ≡ control_of (channel_at out g.channel) 64 =
-        ap (λ ss. control_of (get_or ss g.channel default_channel) 64) s in
+    ap (λ ss. control_of (get_or ss g.channel default_channel) 64) s in
     let each : AllByRecursion (λ y. IsSentAll (role n) e.tick out gs (one.turn y) (rest.turn (one.turn y))) m.notes =
     all_unmap (λ y. IsSentAll (role n) e.tick out gs y (rest.turn y)) one.turn m.notes (subst
-        (AllByRecursion (λ y. IsSentAll (role n) e.tick out gs y (rest.turn y))) one.notes rest.each) in
+    (AllByRecursion (λ y. IsSentAll (role n) e.tick out gs y (rest.turn y))) one.notes rest.each) in
     record {
       turn = λ y. rest.turn (one.turn y);
       notes = rest.notes ∙ ap (map rest.turn) one.notes ∙ map_map rest.turn one.turn m.notes;
@@ -278,9 +319,9 @@ all_sent law e n v tick low small i out (g ∷ gs) d cs m z r s =
           IsSentAll (role n) e.tick out gs (one.turn y) (rest.turn (one.turn y)))
           (λ y. IsSentAll (role n) e.tick out (g ∷ gs) y (rest.turn (one.turn y)))
           (λ y q. first_then (role n) e.tick out g gs y (one.turn y)
-              (rest.turn (one.turn y)) d.0 (subst (λ h. IsSentOn (role n) g.channel e.tick h y (one.turn y)) own q.0) q.1) m.notes
+          (rest.turn (one.turn y)) d.0 (subst (λ h. IsSentOn (role n) g.channel e.tick h y (one.turn y)) own q.0) q.1) m.notes
           (all_both (λ y. IsSentOn (role n) g.channel e.tick (control_of (channel_at m g.channel) 64) y (one.turn y))
-              (λ y. IsSentAll (role n) e.tick out gs (one.turn y) (rest.turn (one.turn y))) m.notes one.each each);
+          (λ y. IsSentAll (role n) e.tick out gs (one.turn y) (rest.turn (one.turn y))) m.notes one.each each);
       channels = rest.channels ∙ one.channels;
       zones = rest.zones;
       reached = rest.reached;
@@ -315,7 +356,7 @@ sent_played port o table k r c t src out i w f g a b (((m, among), x), y) h part
             (λ q. ap (λ cs. get_or cs 64 0) (w.now p holds ∙ ap (λ d. (channel_at src d).controls) e))))
         | inr e ↦ subst (λ z. IsPlayedBy port o table k.old z (g b)) (sym (x.elsewhere e))
             (subst (IsPlayedBy port o table k.old a) (sym (y.none (held_all (λ z. b.channel ≢ z.channel) k.old c k.holds
-                (λ q j l same. e (ap (λ (u : Pair). u.part.channel) (w.apart p q holds j (sym on ∙ same)) ∙ l))))) h)
+            (λ q j l same. e (ap (λ (u : Pair). u.part.channel) (w.apart p q holds j (sym on ∙ same)) ∙ l))))) h)
       ])
 ]
 
@@ -348,7 +389,7 @@ causes_sent o table after out hs n v Ignored i = absurd i
 pub send_follows : (Good : State → Type 0) → Laws Good → (port : ℕ) (o : Options) (table : Targets) (used : ℕ → Bool) → AreUsed o used →
     (k : Moment) (b : Both) (t track c n v : ℕ) → IsSent (role n) → is_part o c ≡ true →
     Follows Good port o table used k.old k.was b → IsGiven Good port o table used k b.source (said_at t track (Control c n v)) →
-        Follows Good port o table used k.new k.is (next_both port o table k b (said_at t track (Control c n v)))
+    Follows Good port o table used k.new k.is (next_both port o table k b (said_at t track (Control c n v)))
 send_follows Good laws port o table used row k b t track c n v i part follows sound =
     let msg : Msg = Control c n v in
     let e : MidiEvent = said_at t track msg in
@@ -359,24 +400,27 @@ send_follows Good laws port o table used row k b t track c n v i part follows so
     let hs : List Held = held_by k.old c k.holds in
     let x : Music = play out (saying e (send_all n v hs)) in
     let apart : (p q : Pair) → Has k.holds p → Has k.holds q → k.old p ≡ k.old q → p ≡ q = λ p q h g. sound.apart_was p q (sound.was_there p h)
-        (sound.was_there q g) in
+    (sound.was_there q g) in
     let s : IsAfterSent r c t src after = after_sent src t c n v i follows.source_zones follows.source_settled in
     let to : AreSent r t out hs out x = all_sent laws.settle e n v sound.valid.tick sound.valid.what.1 sound.valid.what.2 i out hs
-        (held_own k.old c k.holds sound.once apart) (held_all (λ h. h.channel < 16) k.old c k.holds (λ p h g. row.channel (k.old p)
-        (sound.used_was p (sound.was_there p h)))) out follows.out_zones follows.out_reached refl in
-    let around : AroundSent o k c src out = record { apart = apart; now =
-        λ p h. (held_state Good port o table used k b e follows sound p (sound.was_there p h)).controls } in
+    (held_own k.old c k.holds sound.once apart) (held_all (λ h. h.channel < 16) k.old c k.holds (λ p h g. row.channel (k.old p)
+    (sound.used_was p (sound.was_there p h)))) out follows.out_zones follows.out_reached refl in
+    let around : AroundSent o k c src out = record {
+      apart = apart;
+      now =
+          λ p h. (held_state Good port o table used k b e follows sound p (sound.was_there p h)).controls;
+    } in
     let among_all : Note → Type 0 = λ a. is_part o a.channel ≡ true → sounds a ≡ true → IsAmong port k.holds a.channel (target_of o table a) in
     let h : ℕ = control_of (channel_at src c) 64 in
     let seen : Pairwise (Seen port o table k r c t src out s.turn to.turn) src.notes out.notes =
     pair_with_second (λ a y. (IsMatched port o table k.old a y × among_all a) × IsSentOn r c t h a (s.turn a))
-        (λ y. IsSentAll r t out hs y (to.turn y)) src.notes out.notes
+    (λ y. IsSentAll r t out hs y (to.turn y)) src.notes out.notes
     (pair_along (λ a y. IsMatched port o table k.old a y × among_all a)
-        (λ a. IsSentOn r c t h a (s.turn a)) src.notes out.notes (pair_along
-        (IsMatched port o table k.old) among_all src.notes out.notes follows.notes sound.held) s.each) to.each in
+    (λ a. IsSentOn r c t h a (s.turn a)) src.notes out.notes (pair_along
+    (IsMatched port o table k.old) among_all src.notes out.notes follows.notes sound.held) s.each) to.each in
     let done : Pairwise (IsMatched port o table k.old) (map s.turn src.notes) (map to.turn out.notes) =
-        pair_map (Seen port o table k r c t src out s.turn to.turn)
-        (IsMatched port o table k.old) s.turn to.turn (sent_match port o table k r c t src out i around s.turn to.turn) src.notes out.notes seen in
+    pair_map (Seen port o table k r c t src out s.turn to.turn)
+    (IsMatched port o table k.old) s.turn to.turn (sent_match port o table k r c t src out i around s.turn to.turn) src.notes out.notes seen in
     let still : StandsStill port o table used k b after x = record {
       notes = subst (λ ns. Pairwise (IsMatched port o table k.old) ns x.notes) (sym s.notes)
           (subst (Pairwise (IsMatched port o table k.old) (map s.turn src.notes)) (sym to.notes) done);
@@ -389,6 +433,6 @@ send_follows Good laws port o table used row k b t track c n v i part follows so
       out_reached = to.reached;
     } in
     follows_next Good port o table used k b e follows sound refl (still_stepped Good port o table used k b e
-        (play out (port_block port o table k src out e)) follows sound (quiet_moment Good port o table used k src e sound (λ p q. q))
+    (play out (port_block port o table k src out e)) follows sound (quiet_moment Good port o table used k src e sound (λ p q. q))
     (subst (StandsStill port o table used k b after) (sym (ap (play out)
-        (part_block port o table k src out t track msg (send_all n v hs) part (causes_sent o table after out hs n v r i)))) still))
+    (part_block port o table k src out t track msg (send_all n v hs) part (causes_sent o table after out hs n v r i)))) still))

@@ -38,12 +38,12 @@ use Rattle.bend_laws.proofs.Planned.{note_channels, Placed, block_channels}
 pub begun_there : (Good : State → Type 0) (port : ℕ) (o : Options) (table : Targets) (used : ℕ → Bool) (place : Pair → ℕ) (there : List Pair)
     (k : Moment) (b : Both) (t track c j v : ℕ) → Follows Good port o table used place there b →
     IsGiven Good port o table used k b.source (said_at t track (NoteOn c j (suc v))) → is_part o c ≡ true → (x : BendTarget) →
-        bend_target_if o.range (table j t) ≡ Some x → Has k.is (pair_with port c x)
+    bend_target_if o.range (table j t) ≡ Some x → Has k.is (pair_with port c x)
 begun_there Good port o table used place there k b t track c j v follows sound part x aim =
     let later : Note → Type 0 = λ a. is_part o a.channel ≡ true → sounds a ≡ true → IsAmong port k.is a.channel (target_of o table a) in
     subst (IsAmong port k.is c) aim (last_of later (map (cut_off t c j) b.source.notes) (new_note b.source t c j (suc v))
     (subst (λ (m : Music). AllByRecursion later m.notes)
-        (strikes_note b.source t c j v follows.source_zones follows.source_settled) sound.there) part refl)
+    (strikes_note b.source t c j v follows.source_zones follows.source_settled) sound.there) part refl)
 
 is_placed : (Good : State → Type 0) (port : ℕ) (o : Options) (table : Targets) (used : ℕ → Bool) → AreUsed o used → (place : Pair → ℕ)
     (there : List Pair) (k : Moment) (b : Both) → Follows Good port o table used place there b → (t track : ℕ) (w : MidiWhat) →
@@ -71,17 +71,17 @@ channels_at Good laws o table used row plan ns last given (suc k) low =
     go : note_channels o (both_at o table plan ns k).out.notes ≡ planned_channels o table plan ns k → (x : Option MidiEvent) →
         port_event ns (suc k) ≡ x →
         note_channels o (both_next plan.number o table (moment plan k) (both_at o table plan ns k) x).out.notes
-            ≡ planned_channels o table plan ns k ++ channel_if plan.number o table (plan.channel (suc k)) x
+        ≡ planned_channels o table plan ns k ++ channel_if plan.number o table (plan.channel (suc k)) x
     go h None is = h ∙ sym (append-nil (planned_channels o table plan ns k))
     go h (Some e) is =
         let b : Both = both_at o table plan ns k in
         let follows : Follows Good plan.number o table used (plan.channel k) (plan.pairs k) b =
-            follows_at Good laws o table used row plan ns last given k (omega arith) in
+        follows_at Good laws o table used row plan ns last given k (omega arith) in
         let sound : IsGiven Good plan.number o table used (moment plan k) b.source e =
-            subst (λ m. IsGiven Good plan.number o table used (moment plan k) m e) (sym (source_is o table plan ns k))
-            (sound_at Good o table used plan ns last given k low e is) in
+        subst (λ m. IsGiven Good plan.number o table used (moment plan k) m e) (sym (source_is o table plan ns k))
+        (sound_at Good o table used plan ns last given k low e is) in
         block_channels laws.fade plan.number o table (moment plan k) b.source b.out e.tick e.track e.what
-            (is_placed Good plan.number o table used row (plan.channel k) (plan.pairs k) (moment plan k) b follows e.tick e.track e.what sound)
+        (is_placed Good plan.number o table used row (plan.channel k) (plan.pairs k) (moment plan k) b follows e.tick e.track e.what sound)
         ∙ ap (λ ds. ds ++ channel_if plan.number o table (plan.channel (suc k)) (Some e)) h
 
 -- ---- channels on which nothing is
@@ -107,9 +107,9 @@ pub plays_at : (Good : State → Type 0) → Laws Good → (o : Options) (table 
 plays_at Good laws o table used row plan ns last given k low =
     let b : Both = both_at o table plan ns k in
     let follows : Follows Good plan.number o table used (plan.channel k) (plan.pairs k) b =
-        follows_at Good laws o table used row plan ns last given k low in
+    follows_at Good laws o table used row plan ns last given k low in
     let among : SoundAmong plan.number o table (plan.pairs k) b.source.notes =
-        subst (λ (m : Music). SoundAmong plan.number o table (plan.pairs k) m.notes) (sym (source_is o table plan ns k)) (given.there k low) in
+    subst (λ (m : Music). SoundAmong plan.number o table (plan.pairs k) m.notes) (sym (source_is o table plan ns k)) (given.there k low) in
     record {
       notes = played_retuned plan.number o table (plan.channel k) b.source.notes b.out.notes follows.notes;
       channels = channels_at Good laws o table used row plan ns last given k low;
@@ -119,8 +119,8 @@ plays_at Good laws o table used row plan ns last given k low =
         keys = pressures_are b.out.notes (plan.channel k p)
             (wanted_keys o table p (sounding o b.source)) 0 128 (wanted_wide o table p (sounding o b.source))
             (λ i0 small. ap (key_pressure b.out.notes (plan.channel k p)) (zero_more i0) ∙ pair_pressure plan.number o table (plan.channel k)
-                (plan.pairs k) p (given.ports k p low i) (row.retuned (plan.channel k p) (given.used_at k p low i))
-                (λ q g same. given.apart k q p low g i same) i0 b.source.notes b.out.notes follows.notes among);
+            (plan.pairs k) p (given.ports k p low i) (row.retuned (plan.channel k p) (given.used_at k p low i))
+            (λ q g same. given.apart k q p low g i same) i0 b.source.notes b.out.notes follows.notes among);
       };
       silent = λ c u free. free_silent Good plan.number o table used row (plan.channel k) (plan.pairs k) b follows among c u free;
       left = λ c u free. record {

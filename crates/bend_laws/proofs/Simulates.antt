@@ -54,8 +54,12 @@ waits : (Good : State → Type 0) (port : ℕ) (o : Options) (table : Targets) (
     Follows Good port o table used old was b → Follows Good port o table used new is b
 waits Good port o table used old new was is b h among f =
     let k : Moment = record { was = was; holds = is; is = is; old = old; new = new } in
-    let quiet : Quiet k = record { held = λ p i. i; none = λ p g. both_ways (is_member is_same_pair was p) g.new (h p g.is).0; stays =
-        λ p i. (h p i).1 } in
+    let quiet : Quiet k = record {
+      held = λ p i. i;
+      none = λ p g. both_ways (is_member is_same_pair was p) g.new (h p g.is).0;
+      stays =
+          λ p i. (h p i).1;
+    } in
     record {
       notes = moved_notes port o table k b.source.notes b.out.notes quiet among f.notes;
       states = f.states;
@@ -107,14 +111,14 @@ follows_at Good laws o table used row plan ns last given (suc k) low =
     go : Follows Good plan.number o table used (plan.channel k) (plan.pairs k) (both_at o table plan ns k) → (x : Option MidiEvent) →
         port_event ns (suc k) ≡ x →
         Follows Good plan.number o table used (plan.channel (suc k)) (plan.pairs (suc k))
-            (both_next plan.number o table (moment plan k) (both_at o table plan ns k) x)
+        (both_next plan.number o table (moment plan k) (both_at o table plan ns k) x)
     go f (Some e) is =
         event_kept Good laws plan.number o table used row (moment plan k) (both_at o table plan ns k) e f
         (subst (λ m. IsGiven Good plan.number o table used (moment plan k) m e) (sym (source_is o table plan ns k))
-            (sound_at Good o table used plan ns last given k low e is))
+        (sound_at Good o table used plan ns last given k low e is))
     go f None is =
         let same : source_at ns (suc k) ≡ (both_at o table plan ns k).source = ap (source_next (source_at ns k)) is
-            ∙ sym (source_is o table plan ns k) in
+        ∙ sym (source_is o table plan ns k) in
         waits Good plan.number o table used (plan.channel k) (plan.channel (suc k)) (plan.pairs k) (plan.pairs (suc k)) (both_at o table plan ns k)
         (λ p i.
         let h : is_member is_same_pair (plan.held (suc k)) p ≡ true = elim (cases_Bool (is_member is_same_pair (plan.held (suc k)) p)) [

@@ -26,8 +26,8 @@ voice_all c P h now v =
     let low : List Msg = where_differs (control_of now 32) v.low (Control c 32 v.low) in
     cond_both (voice_eq now.voice v) [] ((high ++ low) ++ Program c v.program ∷ []) (AllByRecursion P) (λ e. tt)
     (λ e. all_append P (high ++ low) (Program c v.program ∷ [])
-        (all_append P high low (differs_all P (control_of now 0) v.high (Control c 0 v.high) (h.control 0 v.high))
-        (differs_all P (control_of now 32) v.low (Control c 32 v.low) (h.control 32 v.low))) (h.program v.program, tt))
+    (all_append P high low (differs_all P (control_of now 0) v.high (Control c 0 v.high) (h.control 0 v.high))
+    (differs_all P (control_of now 32) v.low (Control c 32 v.low) (h.control 32 v.low))) (h.program v.program, tt))
 
 controls_all : (c : ℕ) (P : Msg → Type 0) → HoldsOn c P → (n : ℕ) (xs ys : List ℕ) → AllByRecursion P (bring_controls c n xs ys)
 controls_all c P h n [] ys = tt
@@ -41,11 +41,11 @@ parameter_all c P h now e =
     let second : List Msg = where_differs now.1 e.value.1 (Control c 38 e.value.1) in
     all_append P (choose_parameter c e.parameter) (first ++ second)
     (cond_both e.parameter.registered (Control c 101 e.parameter.high ∷ Control c 100 e.parameter.low ∷ [])
-        (Control c 99 e.parameter.high ∷ Control c 98 e.parameter.low ∷ []) (AllByRecursion P)
+    (Control c 99 e.parameter.high ∷ Control c 98 e.parameter.low ∷ []) (AllByRecursion P)
     (λ g. (h.control 101 e.parameter.high, (h.control 100 e.parameter.low, tt)))
-        (λ g. (h.control 99 e.parameter.high, (h.control 98 e.parameter.low, tt))))
+    (λ g. (h.control 99 e.parameter.high, (h.control 98 e.parameter.low, tt))))
     (all_append P first second (differs_all P now.0 e.value.0 (Control c 6 e.value.0) (h.control 6 e.value.0))
-        (differs_all P now.1 e.value.1 (Control c 38 e.value.1) (h.control 38 e.value.1)))
+    (differs_all P now.1 e.value.1 (Control c 38 e.value.1) (h.control 38 e.value.1)))
 
 each_all : (c : ℕ) (P : Msg → Type 0) → HoldsOn c P → (now es : List Entry) → AllByRecursion P (bring_each c now es)
 each_all c P h now [] = tt
@@ -74,9 +74,9 @@ bring_holds c P h now wanted =
     (all_append P (((voice ++ controls) ++ closed c each) ++ pressure) bend
     (all_append P ((voice ++ controls) ++ closed c each) pressure
     (all_append P (voice ++ controls) (closed c each) (all_append P voice controls (voice_all c P h now.own wanted.own.voice)
-        (controls_all c P h 0 (apply_all now voice).own.controls wanted.own.controls))
+    (controls_all c P h 0 (apply_all now voice).own.controls wanted.own.controls))
     (closed_all c P h each (each_all c P h now.own.params
-        (to_default now.own.params wanted.own.params ++ to_other now.own.params wanted.own.params))))
+    (to_default now.own.params wanted.own.params ++ to_other now.own.params wanted.own.params))))
     (differs_all P now.own.pressure wanted.own.pressure (Pressure c wanted.own.pressure) (h.pressure wanted.own.pressure)))
     (differs_all P now.own.bend wanted.own.bend (Bend c wanted.own.bend) (h.bend wanted.own.bend)))
     (keys_all c P h 0 now.keys wanted.keys)

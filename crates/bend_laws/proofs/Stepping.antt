@@ -34,8 +34,11 @@ found place c [] p h = absurd cc
 found place c (q ∷ qs) p h = elim (cases_Bool (nat_eq (place q) c)) [
   | inl e ↦ (let same : q ≡ p = (let g : cond true (Some q) (on_place place c qs) ≡ Some p = ap (λ b. cond b (Some q) (on_place place c qs))
       (sym e) ∙ h in cc) in
-      record { there = or_left (is_same_pair p q) (is_member is_same_pair qs p) (ap (λ x. is_same_pair p x) same ∙ pair_itself p); on =
-          ap place (sym same) ∙ eqb-true (place q) c e })
+      record {
+        there = or_left (is_same_pair p q) (is_member is_same_pair qs p) (ap (λ x. is_same_pair p x) same ∙ pair_itself p);
+        on =
+            ap place (sym same) ∙ eqb-true (place q) c e;
+      })
   | inr e ↦ (let r : Found place c qs p = found place c qs p (ap (λ b. cond b (Some q) (on_place place c qs)) (sym e) ∙ h) in
       record { there = or_right (is_same_pair p q) (is_member is_same_pair qs p) r.there; on = r.on })
 ]
@@ -56,11 +59,13 @@ filtered f [] p h = absurd (both_ways false refl h)
 filtered f (q ∷ qs) p h = elim (cases_Bool (f q)) [
   | inl e ↦ elim (or_cases (is_same_pair p q) (is_member is_same_pair (filter f qs) p)
       (ap (λ b. is_member is_same_pair (cond b (q ∷ filter f qs) (filter f qs)) p) (sym e) ∙ h)) [
-    | inl s ↦ (ap f (same_pair p q s) ∙ e, or_left (is_same_pair p q) (is_member is_same_pair qs p) s)
-    | inr r ↦ (let t = filtered f qs p r in (t.0, or_right (is_same_pair p q) (is_member is_same_pair qs p) t.1))
-  ]
-  | inr e ↦ (let t = filtered f qs p (ap (λ b. is_member is_same_pair (cond b (q ∷ filter f qs) (filter f qs)) p) (sym e) ∙ h) in (t.0,
-      or_right (is_same_pair p q) (is_member is_same_pair qs p) t.1))
+        | inl s ↦ (ap f (same_pair p q s) ∙ e, or_left (is_same_pair p q) (is_member is_same_pair qs p) s)
+        | inr r ↦ (let t = filtered f qs p r in (t.0, or_right (is_same_pair p q) (is_member is_same_pair qs p) t.1))
+      ]
+  | inr e ↦ (let t = filtered f qs p (ap (λ b. is_member is_same_pair (cond b (q ∷ filter f qs) (filter f qs)) p) (sym e) ∙ h) in (
+    t.0,
+    or_right (is_same_pair p q) (is_member is_same_pair qs p) t.1,
+  ))
 ]
 
 in_filter : (f : Pair → Bool) (ps : List Pair) (p : Pair) → f p ≡ true → Has ps p → Has (filter f ps) p
@@ -77,8 +82,11 @@ pub record BeginsAt (k : Moment) (p : Pair) : Type 0 where
   pub new : is_member is_same_pair k.was p ≡ false
 
 pub beginning : (k : Moment) (p : Pair) → Has (begins_here k) p → BeginsAt k p
-beginning k p h = let t = filtered (λ q. not (is_member is_same_pair k.was q)) k.is p h in record { is = t.1; new =
-    not-true (is_member is_same_pair k.was p) t.0 }
+beginning k p h = let t = filtered (λ q. not (is_member is_same_pair k.was q)) k.is p h in record {
+  is = t.1;
+  new =
+      not-true (is_member is_same_pair k.was p) t.0;
+}
 
 pub begun : (k : Moment) (p : Pair) → BeginsAt k p → Has (begins_here k) p
 begun k p h = in_filter (λ q. not (is_member is_same_pair k.was q)) k.is p (not_from_false (is_member is_same_pair k.was p) h.new) h.is
@@ -120,12 +128,12 @@ pub record Stepped (port : ℕ) (o : Options) (table : Targets) (used : ℕ → 
 at_wanted : (Good : State → Type 0) (port : ℕ) (o : Options) (table : Targets) (used : ℕ → Bool) (k : Moment) (b : Both) (e : MidiEvent)
     (x : Music) → Follows Good port o table used k.old k.was b → IsGiven Good port o table used k b.source e →
     Stepped port o table used k b (step b.source e) x → (p : Pair) → Has k.is p → left_after o table k (step b.source e) false b.left (k.new p)
-        ≡ (wanted o table (step b.source e) p).own
+    ≡ (wanted o table (step b.source e) p).own
 at_wanted Good port o table used k b e x follows sound to p is =
     left_cases o table k (step b.source e) b.left (k.new p) (λ c. c ≡ (wanted o table (step b.source e) p).own)
     (λ q begins on. ap (λ r. (wanted o table (step b.source e) r).own) (sound.apart_is q p begins.is is on))
     (λ none q holds on. ap (λ r. (wanted o table (step b.source e) r).own) (sound.apart_was q p (sound.was_there q holds) (was none)
-        (on ∙ sound.kept p (was none) is)))
+    (on ∙ sound.kept p (was none) is)))
     (λ none free. ap b.left (sound.kept p (was none) is) ∙ follows.at_wanted p (was none) ∙ to.same p is (not_holding (was none) free))
   where
     was : ((q : Pair) → BeginsAt k q → k.new q ≢ k.new p) → Has k.was p
@@ -146,7 +154,7 @@ next_with o table k b e reset x = record { source = step b.source e; out = x; le
 pub follows_next : (Good : State → Type 0) (port : ℕ) (o : Options) (table : Targets) (used : ℕ → Bool) (k : Moment) (b : Both) (e : MidiEvent) →
     Follows Good port o table used k.old k.was b → IsGiven Good port o table used k b.source e →
     resets (doing e.what) ≡ false → Stepped port o table used k b (step b.source e) (play b.out (port_block port o table k b.source b.out e)) →
-        Follows Good port o table used k.new k.is (next_both port o table k b e)
+    Follows Good port o table used k.new k.is (next_both port o table k b e)
 follows_next Good port o table used k b e follows sound none to =
     let x : Music = play b.out (port_block port o table k b.source b.out e) in
     let is : Follows Good port o table used k.new k.is (next_with o table k b e false x) = record {
@@ -154,7 +162,7 @@ follows_next Good port o table used k b e follows sound none to =
       states = λ c u. left_cases o table k (step b.source e) b.left c (IsSameAside (channel_at x c))
           (λ p begins on. subst (λ d. IsSameAside (channel_at x d) (wanted o table (step b.source e) p).own) on (to.begins p begins))
           (λ free p holds on. subst (λ d. IsSameAside (channel_at x d)
-              (wanted o table (step b.source e) p).own) on (to.holds p holds (λ q i s. free q i (s ∙ on))))
+          (wanted o table (step b.source e) p).own) on (to.holds p holds (λ q i s. free q i (s ∙ on))))
           (λ free out. to.others c u free out);
       at_wanted = at_wanted Good port o table used k b e x follows sound to;
       apart = to.apart;
@@ -214,4 +222,4 @@ pub moved_notes : (port : ℕ) (o : Options) (table : Targets) (k : Moment) (ns 
 moved_notes port o table k ns xs q among h =
     let all : Note → Type 0 = λ n. is_part o n.channel ≡ true → sounds n ≡ true → IsAmong port k.is n.channel (target_of o table n) in
     pair_weaker (λ a b. IsMatched port o table k.old a b × all a) (IsMatched port o table k.new)
-        (λ a b g. moved_note port o table k a b q g) ns xs (pair_along (IsMatched port o table k.old) all ns xs h among)
+    (λ a b g. moved_note port o table k a b q g) ns xs (pair_along (IsMatched port o table k.old) all ns xs h among)

@@ -23,21 +23,27 @@ pub quotient : (s : ℕ) (z : ℤ) → 0 < s → IsQuotient s z (int_div_euclid 
 quotient s (pos a) l =
     let sum : a % s + s * (a / s) ≡ a = mod-add-div a s in
     let small : a % s < s = mod-lt a l in
-    record { low = rw (steps_pos s (a / s)) (omega (arith, ints, sum, small)); high = (let h : pos a ≤ℤ (pos (s * (a / s)) +ℤ pos s) =
-        omega (arith, ints, sum, small) in h) }
+    record {
+      low = rw (steps_pos s (a / s)) (omega (arith, ints, sum, small));
+      high = (let h : pos a ≤ℤ (pos (s * (a / s)) +ℤ pos s) =
+          omega (arith, ints, sum, small) in h);
+    }
 quotient s (negsuc a) l =
     let sum : a % s + s * (a / s) ≡ a = mod-add-div a s in
     let small : a % s < s = mod-lt a l in
     let more : s * suc (a / s) ≡ s + s * (a / s) = grind arith in
-    record { low = (let h : neg_ℤ (pos (s * suc (a / s))) ≤ℤ negsuc a = omega (arith, ints, sum, small, more) in h); high =
-        (let h : negsuc a ≤ℤ (neg_ℤ (pos (s * suc (a / s))) +ℤ pos s) = omega (arith, ints, sum, small, more) in h) }
+    record {
+      low = (let h : neg_ℤ (pos (s * suc (a / s))) ≤ℤ negsuc a = omega (arith, ints, sum, small, more) in h);
+      high =
+          (let h : negsuc a ≤ℤ (neg_ℤ (pos (s * suc (a / s))) +ℤ pos s) = omega (arith, ints, sum, small, more) in h);
+    }
 
 -- ---- sums
 
 sum_up : (m r k : ℤ) → (m +ℤ r) *ℤ k ≡ (m *ℤ k) +ℤ (r *ℤ k) → ((m +ℤ pos 1) +ℤ r) *ℤ k ≡ ((m +ℤ pos 1) *ℤ k) +ℤ (r *ℤ k)
 sum_up m r k h =
     let a : ((m +ℤ pos 1) +ℤ r) *ℤ k ≡ ((m +ℤ r) *ℤ k) +ℤ k = ap (λ z. (z +ℤ r) *ℤ k) (+ℤ_one m) ∙ ap (λ z. z *ℤ k) (suc_ℤ-+ℤ m r)
-        ∙ suc_ℤ-*ℤ (m +ℤ r) k in
+    ∙ suc_ℤ-*ℤ (m +ℤ r) k in
     let b : (m +ℤ pos 1) *ℤ k ≡ (m *ℤ k) +ℤ k = ap (λ z. z *ℤ k) (+ℤ_one m) ∙ suc_ℤ-*ℤ m k in
     a ∙ ap (λ z. z +ℤ k) h ∙ (regroup (m *ℤ k) (r *ℤ k) k ∙ ap (λ z. z +ℤ (r *ℤ k)) (sym b))
   where
@@ -47,7 +53,7 @@ sum_up m r k h =
 sum_down : (m r k : ℤ) → (m +ℤ r) *ℤ k ≡ (m *ℤ k) +ℤ (r *ℤ k) → ((m -ℤ pos 1) +ℤ r) *ℤ k ≡ ((m -ℤ pos 1) *ℤ k) +ℤ (r *ℤ k)
 sum_down m r k h =
     let a : ((m -ℤ pos 1) +ℤ r) *ℤ k ≡ ((m +ℤ r) *ℤ k) -ℤ k = ap (λ z. (z +ℤ r) *ℤ k) (-ℤ_one m) ∙ ap (λ z. z *ℤ k) (pred_ℤ-+ℤ m r)
-        ∙ pred_ℤ-*ℤ (m +ℤ r) k in
+    ∙ pred_ℤ-*ℤ (m +ℤ r) k in
     let b : (m -ℤ pos 1) *ℤ k ≡ (m *ℤ k) -ℤ k = ap (λ z. z *ℤ k) (-ℤ_one m) ∙ pred_ℤ-*ℤ m k in
     a ∙ ap (λ z. z -ℤ k) h ∙ (regroup (m *ℤ k) (r *ℤ k) k ∙ ap (λ z. z +ℤ (r *ℤ k)) (sym b))
   where
@@ -108,15 +114,15 @@ near range b t positive h =
     let key : nearest_key b.lo ≡ pos t.key = up_to_is 127 (nearest_key b.lo) t.key two.0 in
     let z : ℤ = (b.lo -ℤ nearest_key b.lo *ℤ pos 3200000000000) +ℤ pos (195312500 * range) in
     let q : IsQuotient (390625000 * range) z (int_div_euclid z (pos (390625000 * range))) =
-        quotient (390625000 * range) z (omega (arith, positive)) in
+    quotient (390625000 * range) z (omega (arith, positive)) in
     let at : nearest_key b.lo *ℤ pos 3200000000000 ≡ pos (3200000000000 * t.key) = ap (λ k. k *ℤ pos 3200000000000) key
-        ∙ ap pos (let e : t.key * 3200000000000 ≡ 3200000000000 * t.key = omega arith in e) in
+    ∙ ap pos (let e : t.key * 3200000000000 ≡ 3200000000000 * t.key = omega arith in e) in
     let S : ℤ = pos (390625000 * range) *ℤ t.steps in
     let low : S ≤ℤ ((b.lo -ℤ pos (3200000000000 * t.key)) +ℤ pos (195312500 * range)) =
-        subst (λ y. S ≤ℤ ((b.lo -ℤ y) +ℤ pos (195312500 * range))) at (subst (λ y. (pos (390625000 * range) *ℤ y) ≤ℤ z) two.1 q.low) in
+    subst (λ y. S ≤ℤ ((b.lo -ℤ y) +ℤ pos (195312500 * range))) at (subst (λ y. (pos (390625000 * range) *ℤ y) ≤ℤ z) two.1 q.low) in
     let high : ((b.lo -ℤ pos (3200000000000 * t.key)) +ℤ pos (195312500 * range)) ≤ℤ (S +ℤ pos (390625000 * range)) =
     subst (λ y. ((b.lo -ℤ y) +ℤ pos (195312500 * range)) ≤ℤ (S +ℤ pos (390625000 * range))) at
-        (subst (λ y. z ≤ℤ ((pos (390625000 * range) *ℤ y) +ℤ pos (390625000 * range))) two.1 q.high) in
+    (subst (λ y. z ≤ℤ ((pos (390625000 * range) *ℤ y) +ℤ pos (390625000 * range))) two.1 q.high) in
     let r = bounds b.lo S t.key range low high in record { low = r.0; high = r.1 }
   where
     bounds : (lo S : ℤ) (k r : ℕ) → S ≤ℤ ((lo -ℤ pos (3200000000000 * k)) +ℤ pos (195312500 * r)) →

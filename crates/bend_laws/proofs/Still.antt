@@ -54,7 +54,7 @@ still_stepped Good port o table used k b e x follows sound quiet s = record {
   holds = λ p h free.
       subst (λ c. IsSameAside c (wanted o table (step b.source e) p).own) (sym (s.out (k.old p) (sound.used_was p (sound.was_there p h))))
       (subst (IsSameAside (channel_at b.out (k.old p))) (sym (same_own o table b.source (step b.source e) p
-          (s.source p.part.channel (sound.parts p (sound.was_there p h)))))
+      (s.source p.part.channel (sound.parts p (sound.was_there p h)))))
       (held_state Good port o table used k b e follows sound p (sound.was_there p h)));
   others = λ c u free none. subst (λ d. IsSameAside d (b.left c)) (sym (s.out c u)) (follows.states c u);
   same = λ p i h. absurd (both_ways (is_member is_same_pair k.holds p) h (quiet.held p i));
@@ -125,15 +125,15 @@ no_message (MetaOf kind bytes) h msg e = cc
 pub passed_follows : (Good : State → Type 0) (port : ℕ) (o : Options) (table : Targets) (used : ℕ → Bool) (k : Moment) (b : Both) (t track : ℕ)
     (w : MidiWhat) → IsPassed w → resets (doing w) ≡ false →
     Follows Good port o table used k.old k.was b → IsGiven Good port o table used k b.source (port_event t track w) →
-        Follows Good port o table used k.new k.is (next_both port o table k b (port_event t track w))
+    Follows Good port o table used k.new k.is (next_both port o table k b (port_event t track w))
 passed_follows Good port o table used k b t track w passed none follows sound =
     let e : MidiEvent = port_event t track w in
     let x : Music = play b.out (port_block port o table k b.source b.out e) in
     let same : x ≡ b.out = ap (play b.out) (passed_block port o table k b.source b.out t track w passed)
-        ∙ no_change b.out t (doing w) none (no_message w passed) in
+    ∙ no_change b.out t (doing w) none (no_message w passed) in
     follows_next Good port o table used k b e follows sound none
     (still_stepped Good port o table used k b e x follows sound (quiet_moment Good port o table used k b.source e sound
-        (none_passed port o table t w passed))
+    (none_passed port o table t w passed))
     (nothing_changes Good port o table used k b (step b.source e) x follows (no_change b.source t (doing w) none (no_message w passed)) same))
 
 -- ---- controllers that are ignored
@@ -144,16 +144,20 @@ unheard : (m : Music) (t : ℕ) (msg : Msg) → IsSettled m → asks m msg ≡ N
 unheard m t msg s h same notes =
     let c : ℕ = channel_of msg in
     let channels : set m.channels c (apply (channel_at m c) msg) ≡ m.channels = ap (set m.channels c) same
-        ∙ set-get_or m.channels c default_channel in
-    said m t msg h ∙ ap (λ ss. let x : Music = record { channels = ss; zones = m.zones; notes = map (settle_note ss m.zones t)
-        (notes_after m t msg) } in x) channels
+    ∙ set-get_or m.channels c default_channel in
+    said m t msg h ∙ ap (λ ss. let x : Music = record {
+      channels = ss;
+      zones = m.zones;
+      notes = map (settle_note ss m.zones t)
+          (notes_after m t msg);
+    } in x) channels
     ∙ ap (λ ns. let x : Music = record { channels = m.channels; zones = m.zones; notes = map (settle_note m.channels m.zones t) ns } in x) notes
     ∙ ap (λ ns. let x : Music = record { channels = m.channels; zones = m.zones; notes = ns } in x) (s.notes t)
 
 pub ignored_follows : (Good : State → Type 0) → Laws Good → (port : ℕ) (o : Options) (table : Targets) (used : ℕ → Bool) (k : Moment) (b : Both)
     (t track c n v : ℕ) → role n ≡ Ignored → is_part o c ≡ true →
     Follows Good port o table used k.old k.was b → IsGiven Good port o table used k b.source (said_at t track (Control c n v)) →
-        Follows Good port o table used k.new k.is (next_both port o table k b (said_at t track (Control c n v)))
+    Follows Good port o table used k.new k.is (next_both port o table k b (said_at t track (Control c n v)))
 ignored_follows Good laws port o table used k b t track c n v ignored part follows sound =
     let msg : Msg = Control c n v in
     let e : MidiEvent = said_at t track msg in
@@ -161,9 +165,9 @@ ignored_follows Good laws port o table used k b t track c n v ignored part follo
     let fit : IsFine port o table b.source (step b.source e) k.is t msg = fine port o table b.source (step b.source e) k.is t msg sound.faultless in
     let after : step b.source e ≡ b.source =
     unheard b.source t msg follows.source_settled (laws.zones o b.source msg fit.zone) (ap (controlled (channel_at b.source c) n v) ignored)
-        (ap (notes_turned b.source t c n v) ignored) in
+    (ap (notes_turned b.source t c n v) ignored) in
     let same : x ≡ b.out = ap (play b.out) (part_block port o table k b.source b.out t track msg [] part
-        (ap (controller_causes o table (step b.source e) b.out (held_by k.old c k.holds) n v) ignored)) in
+    (ap (controller_causes o table (step b.source e) b.out (held_by k.old c k.holds) n v) ignored)) in
     follows_next Good port o table used k b e follows sound refl
     (still_stepped Good port o table used k b e x follows sound (quiet_moment Good port o table used k b.source e sound (λ p h. h))
-        (nothing_changes Good port o table used k b (step b.source e) x follows after same))
+    (nothing_changes Good port o table used k b (step b.source e) x follows after same))

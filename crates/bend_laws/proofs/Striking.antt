@@ -26,8 +26,18 @@ use Rattle.bend_laws.proofs.Sending.{settle_ended, stays_put}
 -- ---- the music
 
 abbrev pub new_note : Music → (t c j v : ℕ) → Note
-new_note m t c j v = record { channel = c; key = j; onset = t; velocity = v; voice = (channel_at m c).voice; release = None; captured =
-    false; pressure = 0; ended = None }
+new_note m t c j v = record {
+  channel = c;
+  key = j;
+  onset = t;
+  velocity = v;
+  voice = (channel_at m c).voice;
+  release = None;
+  captured =
+      false;
+  pressure = 0;
+  ended = None;
+}
 
 abbrev pub struck : Music → (t c j v : ℕ) → Music
 struck m t c j v = plain m.channels (map (cut_off t c j) m.notes ++ new_note m t c j v ∷ [])
@@ -53,12 +63,16 @@ pub strikes_note : (m : Music) (t c j v : ℕ) → m.zones ≡ no_zones → IsSe
 strikes_note m t c j v z s =
     let ns : List Note = map (cut_off t c j) m.notes ++ begun m t c j (suc v) ∷ [] in
     said m t (NoteOn c j (suc v)) refl
-    ∙ ap (λ w. let x : Music = record { channels = set m.channels c (channel_at m c); zones = w; notes =
-        map (settle_note (set m.channels c (channel_at m c)) w t) ns } in x) z
+    ∙ ap (λ w. let x : Music = record {
+      channels = set m.channels c (channel_at m c);
+      zones = w;
+      notes =
+          map (settle_note (set m.channels c (channel_at m c)) w t) ns;
+    } in x) z
     ∙ ap (λ ss. plain ss (map (settle_note ss no_zones t) ns)) (set-get_or m.channels c default_channel)
     ∙ ap (plain m.channels) (map_append (settle_note m.channels no_zones t) (map (cut_off t c j) m.notes) (begun m t c j (suc v) ∷ [])
     ∙ ap (λ xs. xs ++ begun m t c j (suc v) ∷ []) (map_map (settle_note m.channels no_zones t) (cut_off t c j) m.notes
-        ∙ all_cut m t c j m.notes (all_stay m z s))
+    ∙ all_cut m t c j m.notes (all_stay m z s))
     ∙ ap (λ n. map (cut_off t c j) m.notes ++ n ∷ []) (begun_is m t c j (suc v) z))
 
 -- ---- a note that is cut off, or not
@@ -132,30 +146,30 @@ not_both false b x i h g = absurd cc
 pub all_aside : (o : Options) (table : Targets) (t c j v : ℕ) (x : BendTarget) (ns : List Note) → o.route ≡ ByBend → is_part o c ≡ true →
     bend_target_if o.range (table j t) ≡ Some x →
     (bends_notes o.route && (is_part o c && any_note (λ n. (sounds n && nat_eq n.channel c) &&
-        (not (nat_eq n.key j) && is_same_target (target_of o table n) (bend_target_if o.range (table j t)))) ns)) ≡ false →
+    (not (nat_eq n.key j) && is_same_target (target_of o table n) (bend_target_if o.range (table j t)))) ns)) ≡ false →
     (bends_notes o.route && (is_part o c && any_note (λ n. (sounds n && nat_eq n.channel c) &&
-        (nat_eq n.key j && not (is_same_target (target_of o table n) (bend_target_if o.range (table j t))))) ns)) ≡ false →
+    (nat_eq n.key j && not (is_same_target (target_of o table n) (bend_target_if o.range (table j t))))) ns)) ≡ false →
     AllByRecursion (IsAside o table c j x) ns
 all_aside o table t c j v x ns route part aim unison restrike =
     let u : Note → Bool = λ n. (sounds n && nat_eq n.channel c) && (not (nat_eq n.key j) && is_same_target (target_of o table n)
-        (bend_target_if o.range (table j t))) in
+    (bend_target_if o.range (table j t))) in
     let r : Note → Bool = λ n. (sounds n && nat_eq n.channel c) && (nat_eq n.key j && not (is_same_target (target_of o table n)
-        (bend_target_if o.range (table j t)))) in
+    (bend_target_if o.range (table j t)))) in
     all_weaker (λ n. (u n ≡ false) × (r n ≡ false)) (IsAside o table c j x)
     (λ n h. record {
       other = λ s e k.
           let f : (not (nat_eq n.key j) && is_same_target (target_of o table n) (bend_target_if o.range (table j t))) ≡ false = not_both (sounds n)
-              (nat_eq n.channel c) (not (nat_eq n.key j) && is_same_target (target_of o table n)
-              (bend_target_if o.range (table j t))) h.0 s (eq-eqb n.channel c e) in
+          (nat_eq n.channel c) (not (nat_eq n.key j) && is_same_target (target_of o table n)
+          (bend_target_if o.range (table j t))) h.0 s (eq-eqb n.channel c e) in
           ap (is_same_target (target_of o table n)) (sym aim)
-              ∙ (ap (λ b. not b && is_same_target (target_of o table n) (bend_target_if o.range (table j t))) (sym k) ∙ f);
+          ∙ (ap (λ b. not b && is_same_target (target_of o table n) (bend_target_if o.range (table j t))) (sym k) ∙ f);
       same = λ s e k.
           let f : (nat_eq n.key j && not (is_same_target (target_of o table n) (bend_target_if o.range (table j t)))) ≡ false = not_both (sounds n)
-              (nat_eq n.channel c) (nat_eq n.key j && not (is_same_target (target_of o table n)
-              (bend_target_if o.range (table j t)))) h.1 s (eq-eqb n.channel c e) in
+          (nat_eq n.channel c) (nat_eq n.key j && not (is_same_target (target_of o table n)
+          (bend_target_if o.range (table j t)))) h.1 s (eq-eqb n.channel c e) in
           ap (is_same_target (target_of o table n)) (sym aim) ∙ not-false (is_same_target (target_of o table n)
-              (bend_target_if o.range (table j t))) (ap (λ b. b && not (is_same_target (target_of o table n) (bend_target_if o.range (table j t))))
-              (sym k) ∙ f);
+          (bend_target_if o.range (table j t))) (ap (λ b. b && not (is_same_target (target_of o table n) (bend_target_if o.range (table j t))))
+          (sym k) ∙ f);
     }) ns (all_both (λ n. u n ≡ false) (λ n. r n ≡ false) ns
     (any_false u ns (two_false (bends_notes o.route) (is_part o c) (any_note u ns) (ap bends_notes route) part unison))
     (any_false r ns (two_false (bends_notes o.route) (is_part o c) (any_note r ns) (ap bends_notes route) part restrike)))
@@ -180,7 +194,7 @@ pub struck_apart : (o : Options) (table : Targets) (m : Music) (t c j v : ℕ) (
     AllByRecursion (IsAside o table c j x) m.notes → AreApart o table m.notes → AreApart o table (struck m t c j v).notes
 struck_apart o table m t c j v x aim h g =
     apart_append o table (map (cut_off t c j) m.notes) (new_note m t c j v) (apart_fades o table m.notes (map (cut_off t c j) m.notes)
-        (cut_fades t c j m.notes) g)
+    (cut_fades t c j m.notes) g)
     (all_mapped_notes m.notes h)
   where
     all_mapped_notes : (ns : List Note) → AllByRecursion (IsAside o table c j x) ns → AllByRecursion (λ a. AreTwo o table a (new_note m t c j v))

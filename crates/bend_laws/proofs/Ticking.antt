@@ -1,5 +1,5 @@
 -- From positions to ticks: the events up to a tick are those up to a position, on both sides.
-use Rattle.std.proofs.Common.{◌≡◌, ◌<◌, ◌≤◌, ◌+◌, ◌*◌, ◌-◌, ℕ, pos, ◌+ℤ◌, Bool, true, false, cond, List, [], ◌∷◌, ◌++◌, Some, refl, ap, sym, ◌∙◌, subst, nat_le, arith, inl, inr}
+use Rattle.std.proofs.Common.{◌≡◌, ◌<◌, ◌≤◌, ◌+◌, ◌*◌, ℕ, pos, ◌+ℤ◌, Bool, true, false, cond, List, [], ◌∷◌, ◌++◌, Some, refl, ap, sym, ◌∙◌, subst, nat_le, arith, inl, inr}
 use Rattle.std.specs.List.{AllByRecursion}
 use Rattle.std.proofs.lemmas.Bool.{cases_lt, le-leb, lt-leb}
 use Rattle.std.proofs.lemmas.List.{append-nil}
@@ -21,17 +21,16 @@ use Rattle.retune_model.specs.Ports.{Numbered, unnumbered, Ascend}
 use Rattle.channel_model.specs.Choice.{wanted, bend_value}
 use Rattle.retune_model.specs.Source.{bend_in_steps}
 use Rattle.channel_model.specs.BendOutput.{pair_with, placed_at, PortRuns}
-use Rattle.bend_laws.specs.Moments.{Both, port_causes, port_block, moment, moment_at, port_output}
+use Rattle.bend_laws.specs.Moments.{Both, port_causes, port_block, moment_at, port_output}
 use Rattle.bend_laws.specs.Brought.{IsSameAside}
-use Rattle.bend_laws.specs.Follows.{Has, IsPlayedBy, IsAmong, SoundAmong, AreUsed, Follows}
+use Rattle.bend_laws.specs.Follows.{IsPlayedBy, AreUsed}
 use Rattle.bend_laws.specs.Positions.{both_at, up_to_position}
 use Rattle.bend_laws.proofs.Planning.{blocks_to, IsPlanned}
 use Rattle.bend_laws.specs.Simulation.{retuned, PlaysAt}
 use Rattle.bend_laws.proofs.Ticks.{AreTimely, IsSetAlike}
 use Rattle.bend_laws.proofs.Equal.{own_governor}
-use Rattle.bend_laws.proofs.Lists.{all_weaker, all_append, map_append, pair_weaker, pair_along}
+use Rattle.bend_laws.proofs.Lists.{all_weaker, all_append, map_append, pair_weaker}
 use Rattle.bend_laws.proofs.Given.{Laws}
-use Rattle.bend_laws.proofs.Simulates.{source_is, follows_at}
 use Rattle.bend_laws.proofs.Shown.{plays_at}
 use Rattle.bend_laws.proofs.Outputs.{none_yet, output_append, out_is, source_is_played, blocks_are}
 
@@ -46,17 +45,34 @@ record Split (t : ℕ) (ns : List Numbered) : Type 0 where
 
 all_from : (a : ℕ) (ns : List Numbered) → AreInOrder a (unnumbered ns) → AllByRecursion (λ (n : Numbered). a ≤ n.event.tick) ns
 all_from a [] h = tt
-all_from a (n ∷ ns) h = (h.0, all_weaker (λ (x : Numbered). n.event.tick ≤ x.event.tick) (λ (x : Numbered). a ≤ x.event.tick)
-    (λ x g. omega (arith, g, h.0)) ns (all_from n.event.tick ns h.1))
+all_from a (n ∷ ns) h = (
+  h.0,
+  all_weaker (λ (x : Numbered). n.event.tick ≤ x.event.tick) (λ (x : Numbered). a ≤ x.event.tick)
+      (λ x g. omega (arith, g, h.0)) ns (all_from n.event.tick ns h.1),
+)
 
 split : (t a : ℕ) (ns : List Numbered) → AreInOrder a (unnumbered ns) → Split t ns
 split t a [] h = record { early = []; late = []; is = refl; early_ticks = tt; late_ticks = tt }
 split t a (n ∷ ns) h = elim (cases_lt t n.event.tick) [
-  | inl l ↦ record { early = []; late = n ∷ ns; is = refl; early_ticks = tt; late_ticks =
-      (l, all_weaker (λ (x : Numbered). n.event.tick ≤ x.event.tick) (λ (x : Numbered). t < x.event.tick)
-      (λ x g. omega (arith, g, l)) ns (all_from n.event.tick ns h.1)) }
-  | inr l ↦ (let r : Split t ns = split t n.event.tick ns h.1 in record { early = n ∷ r.early; late = r.late; is =
-      ap (λ xs. n ∷ xs) r.is; early_ticks = (l, r.early_ticks); late_ticks = r.late_ticks })
+  | inl l ↦ record {
+    early = [];
+    late = n ∷ ns;
+    is = refl;
+    early_ticks = tt;
+    late_ticks = (
+      l,
+      all_weaker (λ (x : Numbered). n.event.tick ≤ x.event.tick) (λ (x : Numbered). t < x.event.tick)
+          (λ x g. omega (arith, g, l)) ns (all_from n.event.tick ns h.1),
+    );
+  }
+  | inr l ↦ (let r : Split t ns = split t n.event.tick ns h.1 in record {
+    early = n ∷ r.early;
+    late = r.late;
+    is =
+        ap (λ xs. n ∷ xs) r.is;
+    early_ticks = (l, r.early_ticks);
+    late_ticks = r.late_ticks;
+  })
 ]
 
 -- the position of the last
@@ -75,7 +91,7 @@ unfolding last_from
 up_to_last a [] ys h = none_yet a ys h a (omega arith)
 up_to_last a (n ∷ ns) ys h =
     ap (λ b. cond b (n ∷ up_to_position (last_from n.position ns) (ns ++ ys)) (up_to_position (last_from n.position ns) (ns ++ ys)))
-        (le-leb n.position (last_from n.position ns) (last_grows n.position ns ys h.1))
+    (le-leb n.position (last_from n.position ns) (last_grows n.position ns ys h.1))
     ∙ ap (λ zs. n ∷ zs) (up_to_last n.position ns ys h.1)
 
 last_within : (a m : ℕ) (xs ys : List Numbered) → a ≤ m → AllByRecursion (λ (n : Numbered). n.position ≤ m) (xs ++ ys) → last_from a xs ≤ m
@@ -122,7 +138,7 @@ until_output : (t : ℕ) (o : Options) (table : Targets) (plan : PortRuns) (xs y
 until_output t o table plan xs ys h g =
     let rest = output_append o table plan quiet quiet xs ys in
     ap (until t) rest ∙ until_split t (port_output o table plan quiet quiet xs) _ (output_ticks (λ x. x ≤ t) o table plan quiet quiet xs h)
-        (output_ticks (λ x. t < x) o table plan _ _ ys g)
+    (output_ticks (λ x. t < x) o table plan _ _ ys g)
 
 -- ---- the musics at a tick are those at a position
 
@@ -149,15 +165,15 @@ at_position o table plan ns last t h =
       within = last_within 0 last s.early s.late (omega arith) (subst (AllByRecursion (λ (n : Numbered). n.position ≤ last)) s.is h.within);
       source = music_all start (until t (unnumbered ns))
           ∙ ap (λ xs. play quiet (until t (unnumbered xs))) s.is ∙ ap (λ es. play quiet (until t es))
-              (map_append (λ (n : Numbered). n.event) s.early s.late)
+          (map_append (λ (n : Numbered). n.event) s.early s.late)
           ∙ ap (play quiet) (until_split t (unnumbered s.early) (unnumbered s.late) (ticks_of (λ x. x ≤ t) s.early s.early_ticks)
-              (ticks_of (λ x. t < x) s.late s.late_ticks))
+          (ticks_of (λ x. t < x) s.late s.late_ticks))
           ∙ ap (λ xs. play quiet (unnumbered xs)) (sym early) ∙ sym (source_is_played o table plan ns k h.rising);
       out = music_all start (until t (port_output o table plan quiet quiet ns))
           ∙ ap (λ xs. play quiet (until t (port_output o table plan quiet quiet xs))) s.is ∙ ap (play quiet)
-              (until_output t o table plan s.early s.late s.early_ticks s.late_ticks)
+          (until_output t o table plan s.early s.late s.early_ticks s.late_ticks)
           ∙ ap (λ xs. play quiet (port_output o table plan quiet quiet xs)) (sym early) ∙ ap (play quiet)
-              (sym (blocks_are o table plan ns k h.rising)) ∙ sym (out_is o table plan ns k);
+          (sym (blocks_are o table plan ns k h.rising)) ∙ sym (out_is o table plan ns k);
       blocks = ap (λ xs. until t (port_output o table plan quiet quiet xs)) s.is
           ∙ until_output t o table plan s.early s.late s.early_ticks s.late_ticks
           ∙ ap (port_output o table plan quiet quiet) (sym early) ∙ sym (blocks_are o table plan ns k h.rising);
@@ -185,10 +201,10 @@ same_notes Good laws o table used row plan ns last given timely t =
     let plays : PlaysAt o table used plan ns at.position b = plays_at Good laws o table used row plan ns last given at.position at.within in
     let R : Note → Note → Type 0 = IsSameNote (output_key o table) in
     subst (λ (m : Music). Pairwise R (retuned o m.notes) (retuned_notes (is_part o) (at_tick t (port_output o table plan quiet quiet ns))))
-        (sym at.source)
+    (sym at.source)
     (subst (λ (m : Music). Pairwise R (retuned o b.source.notes) (retuned o m.notes)) (sym at.out)
     (pair_weaker (IsPlayedBy plan.number o table (plan.channel at.position)) R (same_note plan.number o table (plan.channel at.position) row.route)
-        (retuned o b.source.notes) (retuned o b.out.notes) plays.notes))
+    (retuned o b.source.notes) (retuned o b.out.notes) plays.notes))
 
 -- ---- the same settings
 
@@ -200,7 +216,7 @@ rank_zero p h = by_kind p.registered p.high p.low h
     by_kind false a b e = absurd (omega (arith, e))
     by_kind true a b e = (let x : a ≡ 0 = omega (arith, e) in let y : b ≡ 0 = omega (arith, e) in
         ap (λ u. let q : Parameter = record { registered = true; high = u; low = b } in q) x
-            ∙ ap (λ u. let q : Parameter = record { registered = true; high = 0; low = u } in q) y)
+        ∙ ap (λ u. let q : Parameter = record { registered = true; high = 0; low = u } in q) y)
 
 pub own_state : (m : Music) (n : Note) → m.zones ≡ no_zones → channel_at m (governor m.zones n.channel) ≡ channel_at m n.channel
 own_state m n z = ap (λ w. channel_at m (governor w n.channel)) z ∙ ap (channel_at m) (own_governor n.channel)
@@ -209,10 +225,10 @@ own_state m n z = ap (λ w. channel_at m (governor w n.channel)) z ∙ ap (chann
 pub set_alike : PutLeavesTheOthers → (port : ℕ) (o : Options) (table : Targets) (rs ro : Receiver) (place : Pair → ℕ) (a b : Note) →
     rs.music.zones ≡ no_zones → ro.music.zones ≡ no_zones → (h : IsPlayedBy port o table place a b) → sounds a ≡ true →
     IsSameAside (channel_at ro.music (place (pair_with port a.channel h.target)))
-        (wanted o table rs.music (pair_with port a.channel h.target)).own → IsSetAlike o table rs ro a b
+    (wanted o table rs.music (pair_with port a.channel h.target)).own → IsSetAlike o table rs ro a b
 set_alike law port o table rs ro place a b zs zo h s is =
     let out : state_of ro.music b ≡ channel_at ro.music (place (pair_with port a.channel h.target)) = own_state ro.music b zo
-        ∙ ap (channel_at ro.music) (h.sounding s).channel in
+    ∙ ap (channel_at ro.music) (h.sounding s).channel in
     let src : state_of rs.music a ≡ channel_at rs.music a.channel = own_state rs.music a zs in
     let part : Channel = channel_at rs.music a.channel in
     record {

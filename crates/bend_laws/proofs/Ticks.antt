@@ -3,18 +3,17 @@ use Rattle.std.specs.Prelude.{◌≡◌, ◌≢◌, ◌≤◌, ℕ, pos, ◌+ℤ
 use Rattle.std.specs.List.{AllByRecursion}
 use Rattle.mt_base.specs.Midi.{MidiEvent}
 use Rattle.midi_model.specs.Params.{Parameter, value_of, rpn}
-use Rattle.midi_model.specs.Notes.{Note, sounds}
+use Rattle.midi_model.specs.Notes.{Note}
 use Rattle.midi_model.specs.Order.{AreInOrder}
 use Rattle.midi_model.specs.Tuning.{selected_of}
 use Rattle.midi_model.specs.Receiver.{Receiver}
 use Rattle.retune_model.specs.Table.{BendTarget}
 use Rattle.retune_model.specs.Options.{Options}
 use Rattle.retune_model.specs.Source.{bend_in_steps}
-use Rattle.retune_model.specs.PlaysTheSame.{Pairwise, at_tick, retuned_notes, state_of}
-use Rattle.retune_model.specs.Faults.{Targets, is_part, target_of}
+use Rattle.retune_model.specs.PlaysTheSame.{at_tick, state_of}
+use Rattle.retune_model.specs.Faults.{Targets, target_of}
 use Rattle.retune_model.specs.Ports.{Numbered, unnumbered, Ascend}
 use Rattle.channel_model.specs.Choice.{bend_value}
-
 
 -- the positions rise, are none past the last, and the events come in the order of their ticks
 pub record AreTimely (ns : List Numbered) (last : ℕ) : Type 0 where

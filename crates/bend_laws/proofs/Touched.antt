@@ -64,9 +64,9 @@ pedal_touches z c x v n =
     let to_free : SameKey n free = record { channel = refl; key = refl; onset = refl } in
     let to_held : SameKey n held = record { channel = refl; key = refl; onset = refl } in
     sounding_if (nat_eq (governor z n.channel) c && sounds n) n (cond (is_pedal_down x) down up)
-        (λ s. and_right (nat_eq (governor z n.channel) c) (sounds n) s)
+    (λ s. and_right (nat_eq (governor z n.channel) c) (sounds n) s)
     (cond_both (is_pedal_down x) down up (SameKey n) (λ e. cond_both (is_pedal_down v) n free (SameKey n) (λ f. same_itself n) (λ f. to_free))
-        (λ e. cond_both (is_pedal_down v && is_down n) held n (SameKey n) (λ f. to_held) (λ f. same_itself n)))
+    (λ e. cond_both (is_pedal_down v && is_down n) held n (SameKey n) (λ f. to_held) (λ f. same_itself n)))
 
 -- ---- all notes of a music
 
@@ -89,7 +89,7 @@ turned_touches m t c n v Stored = cond_both (nat_eq n 66)
 turned_touches m t c n v ResetControllers =
     let x : ℕ = control_of (channel_at m c) 66 in
     mapped m (λ a. without_pressure c (sostenuto m.zones c x 0 a)) (λ a. then_too a (sostenuto m.zones c x 0 a)
-        (without_pressure c (sostenuto m.zones c x 0 a)) (pedal_touches m.zones c x 0 a) (relax_touches c (sostenuto m.zones c x 0 a)))
+    (without_pressure c (sostenuto m.zones c x 0 a)) (pedal_touches m.zones c x 0 a) (relax_touches c (sostenuto m.zones c x 0 a)))
 turned_touches m t c n v AllSoundOff = mapped m (end_all t m.zones c) (λ a. one_if (hears m.zones c a) a (ending t a) (end_touches t a))
 turned_touches m t c n v AllNotesOff = mapped m (release_all t m.zones c) (λ a. one_if (hears m.zones c a) a (releasing t 64 a) (lift_touches t 64 a))
 turned_touches m t c n v EntryHigh = unchanged m
@@ -102,8 +102,12 @@ turned_touches m t c n v Ignored = unchanged m
 
 message_touches : (m : Music) (t : ℕ) (msg : Msg) → GrowsTo m (begun_by m t (Plays msg)) (notes_after m t msg)
 message_touches m t (NoteOn c k zero) = mapped m (release_key t c k 64) (λ a. one_if (is_at c k a) a (releasing t 64 a) (lift_touches t 64 a))
-message_touches m t (NoteOn c k (suc v)) = record { turn = cut_off t c k; notes = refl; each = λ a. one_if (is_at c k a) a (ending t a)
-    (end_touches t a) }
+message_touches m t (NoteOn c k (suc v)) = record {
+  turn = cut_off t c k;
+  notes = refl;
+  each = λ a. one_if (is_at c k a) a (ending t a)
+      (end_touches t a);
+}
 message_touches m t (NoteOff c k v) = mapped m (release_key t c k v) (λ a. one_if (is_at c k a) a (releasing t v a) (lift_touches t v a))
 message_touches m t (KeyPressure c k v) = mapped m (with_pressure c k v) (press_touches c k v)
 message_touches m t (Control c n v) = turned_touches m t c n v (role n)

@@ -63,8 +63,10 @@ sostenuto_true x v n None = pick (is_pedal_down x) (is_pedal_down v) (is_some n.
     pick false true false = refl
     pick false false r = refl
 
-pub sostenuto_here : (c x v : ℕ) (n : Note) → n.channel ≡ c → sostenuto no_zones c x v n ≡ record n { captured =
-    turned_captured x v n.release n.captured n.ended }
+pub sostenuto_here : (c x v : ℕ) (n : Note) → n.channel ≡ c → sostenuto no_zones c x v n ≡ record n {
+  captured =
+      turned_captured x v n.release n.captured n.ended;
+}
 sostenuto_here c x v n h = ap (λ b. sostenuto_if b x v n) (governs c n h) ∙ sostenuto_true x v n n.ended
 
 pub sostenuto_elsewhere : (c x v : ℕ) (n : Note) → n.channel ≢ c → sostenuto no_zones c x v n ≡ n
@@ -103,7 +105,7 @@ map_fixed f (n ∷ ns) h = (cc, map_fixed f ns cc)
 pub all_stay : (m : Music) → m.zones ≡ no_zones → IsSettled m → AllByRecursion (Stays m.channels) m.notes
 all_stay m z h = subst (λ w. AllByRecursion (λ n. sounds n ≡ true → is_over m.channels w n ≡ false) m.notes) z
     (all_weaker (λ n. settle_note m.channels m.zones 0 n ≡ n) (λ n. sounds n ≡ true → is_over m.channels m.zones n ≡ false)
-        (settled_note m.channels m.zones) m.notes (map_fixed (settle_note m.channels m.zones 0) m.notes (h.notes 0)))
+    (settled_note m.channels m.zones) m.notes (map_fixed (settle_note m.channels m.zones 0) m.notes (h.notes 0)))
 
 -- the hold pedal of a note's own channel
 pub pedal_here : (ss : List Channel) (c : ℕ) (x : Channel) (n : Note) → c < length ss → n.channel ≡ c →
@@ -130,15 +132,19 @@ pub settle_elsewhere : (ss : List Channel) (c : ℕ) (x : Channel) (t : ℕ) (n 
     settle_note (set ss c x) no_zones t n ≡ n
 settle_elsewhere ss c x t n h s =
     let over : is_over (set ss c x) no_zones n ≡ is_over ss no_zones n = ap (λ p. is_some n.release && (not n.captured && not (is_pedal_down p)))
-        (pedal_elsewhere ss c x n h) in
+    (pedal_elsewhere ss c x n h) in
     still t n n.ended (is_over (set ss c x) no_zones n) (λ g. over ∙ s g)
 
 -- a note of the channel ends where both pedals let it go
 pub settle_turned : (t x v hold p : ℕ) (n : Note) (e : Option ℕ) →
     (let k : Bool = turned_captured x v n.release n.captured e in
     let y : Note = record n { captured = k; pressure = p; ended = e } in
-    settled_if (is_some n.release && (not k && not (is_pedal_down hold))) t y ≡ record n { captured = k; pressure = p; ended =
-        turned_ended t x v hold n.release n.captured e })
+    settled_if (is_some n.release && (not k && not (is_pedal_down hold))) t y ≡ record n {
+      captured = k;
+      pressure = p;
+      ended =
+          turned_ended t x v hold n.release n.captured e;
+    })
 settle_turned t x v hold p n (Some s) = pick (is_some n.release && (not n.captured && not (is_pedal_down hold)))
   where
     pick : (b : Bool) → settled_if b t (record n { pressure = p; ended = Some s }) ≡ record n { pressure = p; ended = Some s }
@@ -162,13 +168,16 @@ pub record IsTurned (c t : ℕ) (now after : Channel) (a x : Note) : Type 0 wher
 -- what a message does to a note of its channel, before it settles
 pub record IsCaptured (c : ℕ) (now after : Channel) (a x : Note) : Type 0 where
   pub pressure : ℕ
-  pub here : a.channel ≡ c → x ≡ record a { captured = turned_captured (control_of now 66)
-      (control_of after 66) a.release a.captured a.ended; pressure = pressure }
+  pub here : a.channel ≡ c → x ≡ record a {
+    captured = turned_captured (control_of now 66)
+        (control_of after 66) a.release a.captured a.ended;
+    pressure = pressure;
+  }
   pub elsewhere : a.channel ≢ c → x ≡ a
 
 pub settles : (ss : List Channel) (c t : ℕ) (after : Channel) (a x : Note) → c < length ss → Stays ss a →
     IsCaptured c (get_or ss c default_channel) after a x →
-        IsTurned c t (get_or ss c default_channel) after a (settle_note (set ss c after) no_zones t x)
+    IsTurned c t (get_or ss c default_channel) after a (settle_note (set ss c after) no_zones t x)
 settles ss c t after a x low s h = record {
   pressure = h.pressure;
   here = λ e.
@@ -176,7 +185,7 @@ settles ss c t after a x low s h = record {
       let k : Bool = turned_captured (control_of now 66) (control_of after 66) a.release a.captured a.ended in
       let y : Note = record a { captured = k; pressure = h.pressure } in
       ap (settle_note (set ss c after) no_zones t) (h.here e) ∙ ap (λ p. settled_if (is_some a.release && (not k && not (is_pedal_down p))) t y)
-          (pedal_here ss c after y low e)
+      (pedal_here ss c after y low e)
       ∙ settle_turned t (control_of now 66) (control_of after 66) (control_of after 64) h.pressure a a.ended;
   elsewhere = λ e. ap (settle_note (set ss c after) no_zones t) (h.elsewhere e) ∙ settle_elsewhere ss c after t a e s;
 }
@@ -194,9 +203,9 @@ pub record IsTurnedBy (c t : ℕ) (m x : Music) : Type 0 where
 pub all_settle : (ss : List Channel) (c t : ℕ) (after : Channel) (f : Note → Note) (ns : List Note) → c < length ss →
     ((a : Note) → IsCaptured c (get_or ss c default_channel) after a (f a)) →
     AllByRecursion (Stays ss) ns → AllByRecursion (λ a. IsTurned c t (get_or ss c default_channel)
-        (get_or (set ss c after) c default_channel) a (settle_note (set ss c after) no_zones t (f a))) ns
+    (get_or (set ss c after) c default_channel) a (settle_note (set ss c after) no_zones t (f a))) ns
 all_settle ss c t after f ns low h s =
     all_weaker (Stays ss) (λ a. IsTurned c t (get_or ss c default_channel)
-        (get_or (set ss c after) c default_channel) a (settle_note (set ss c after) no_zones t (f a)))
+    (get_or (set ss c after) c default_channel) a (settle_note (set ss c after) no_zones t (f a)))
     (λ a g. subst (λ (x : Channel). IsTurned c t (get_or ss c default_channel) x a (settle_note (set ss c after) no_zones t (f a)))
-        (sym (get_or-set_same ss c after default_channel low)) (settles ss c t after a (f a) low g (h a))) ns s
+    (sym (get_or-set_same ss c after default_channel low)) (settles ss c t after a (f a) low g (h a))) ns s

@@ -23,7 +23,7 @@ pub record Captures (m : Music) (c : ℕ) (after : Channel) (ns : List Note) : T
 
 message_turned : (m : Music) (t : ℕ) (msg : Msg) → m.zones ≡ no_zones → IsSettled m → asks m msg ≡ None → channel_of msg < 16 →
     Captures m (channel_of msg) (apply (channel_at m (channel_of msg)) msg) (notes_after m t msg) →
-        IsTurnedBy (channel_of msg) t m (advance t (Plays msg) m)
+    IsTurnedBy (channel_of msg) t m (advance t (Plays msg) m)
 message_turned m t msg z s h low k =
     let c : ℕ = channel_of msg in
     let after : Channel = apply (channel_at m c) msg in
@@ -48,14 +48,18 @@ same_note c now after a h = record {
   here = λ e.
       let k : turned_captured (control_of now 66) (control_of after 66) a.release a.captured a.ended ≡ a.captured =
       ap (λ v. turned_captured (control_of now 66) v a.release a.captured a.ended) h
-          ∙ captured_same (control_of now 66) a.release a.captured a.ended in
+      ∙ captured_same (control_of now 66) a.release a.captured a.ended in
       ap (λ b. let y : Note = record a { captured = b } in y) (sym k);
   elsewhere = λ e. refl;
 }
 
 same_notes : (m : Music) (c : ℕ) (after : Channel) → control_of after 66 ≡ control_of (channel_at m c) 66 → Captures m c after m.notes
-same_notes m c after h = record { turn = λ a. a; notes = sym (map_same (λ a. a) (λ a. refl) m.notes); each =
-    λ a. same_note c (channel_at m c) after a h }
+same_notes m c after h = record {
+  turn = λ a. a;
+  notes = sym (map_same (λ a. a) (λ a. refl) m.notes);
+  each =
+      λ a. same_note c (channel_at m c) after a h;
+}
 
 -- ---- key pressure
 
@@ -80,8 +84,10 @@ Brings AllNotesOff = ⊥
 Brings _ = Unit {0}
 
 sostenuto_turns : (c v : ℕ) (now after : Channel) (a : Note) → control_of after 66 ≡ v → a.channel ≡ c →
-    sostenuto no_zones c (control_of now 66) v a ≡ record a { captured = turned_captured (control_of now 66)
-        (control_of after 66) a.release a.captured a.ended }
+    sostenuto no_zones c (control_of now 66) v a ≡ record a {
+      captured = turned_captured (control_of now 66)
+          (control_of after 66) a.release a.captured a.ended;
+    }
 sostenuto_turns c v now after a h e = sostenuto_here c (control_of now 66) v a e ∙ ap (λ w. let y : Note =
     record a { captured = turned_captured (control_of now 66) w a.release a.captured a.ended } in y) (sym h)
 
@@ -103,7 +109,7 @@ sostenuto_pedal m c v after z h = record {
 
 stored : (m : Music) (c n v : ℕ) (b : Bool) → nat_eq n 66 ≡ b → m.zones ≡ no_zones → length (channel_at m c).controls ≡ 120 →
     Captures m c (record (channel_at m c) { controls = set (channel_at m c).controls n v })
-        (cond b (map (sostenuto m.zones c (control_of (channel_at m c) 66) v) m.notes) m.notes)
+    (cond b (map (sostenuto m.zones c (control_of (channel_at m c) 66) v) m.notes) m.notes)
 stored m c n v true e z l =
     let is : n ≡ 66 = eqb-true n 66 e in
     sostenuto_pedal m c v (record (channel_at m c) { controls = set (channel_at m c).controls n v }) z
@@ -117,7 +123,7 @@ reset_pedal : (cs : List ℕ) → length cs ≡ 120 → get_or (reset_controls c
 reset_pedal cs l =
     let before : List ℕ = set (set (set (set cs 1 0) 11 127) 64 0) 65 0 in
     let wide : length before ≡ 120 = length-set (set (set (set cs 1 0) 11 127) 64 0) 65 0 ∙ length-set (set (set cs 1 0) 11 127) 64 0
-        ∙ length-set (set cs 1 0) 11 127 ∙ length-set cs 1 0 ∙ l in
+    ∙ length-set (set cs 1 0) 11 127 ∙ length-set cs 1 0 ∙ l in
     get_or-set_other (set before 66 0) 67 66 0 0 (λ e. absurd (omega (arith, e))) ∙ get_or-set_same before 66 0 0 (omega (arith, wide))
 
 relaxed : (c : ℕ) (a y : Note) (k : Bool) → y ≡ record a { captured = k } → a.channel ≡ c →
@@ -125,8 +131,11 @@ relaxed : (c : ℕ) (a y : Note) (k : Bool) → y ≡ record a { captured = k } 
 relaxed c a y k is h = ap (without_pressure c) is ∙ pick (nat_eq a.channel c && sounds a)
     ∙ ap (λ (x : Note). let z : Note = record a { captured = k; pressure = (without_pressure c x).pressure } in z) (sym is)
   where
-    pick : (b : Bool) → cond b (record a { captured = k; pressure = 0 }) (record a { captured = k }) ≡ record a { captured = k; pressure =
-        (cond b (record a { captured = k; pressure = 0 }) (record a { captured = k })).pressure }
+    pick : (b : Bool) → cond b (record a { captured = k; pressure = 0 }) (record a { captured = k }) ≡ record a {
+      captured = k;
+      pressure =
+          (cond b (record a { captured = k; pressure = 0 }) (record a { captured = k })).pressure;
+    }
     pick true = refl
     pick false = refl
 
@@ -173,8 +182,12 @@ message_captures : (m : Music) (t : ℕ) (msg : Msg) → IsBringing msg → m.zo
     Captures m (channel_of msg) (apply (channel_at m (channel_of msg)) msg) (notes_after m t msg)
 message_captures m t (NoteOn c k v) b z l = absurd b
 message_captures m t (NoteOff c k v) b z l = absurd b
-message_captures m t (KeyPressure c k v) b z l = record { turn = with_pressure c k v; notes = refl; each =
-    λ a. pressed_note c k v (channel_at m c) a }
+message_captures m t (KeyPressure c k v) b z l = record {
+  turn = with_pressure c k v;
+  notes = refl;
+  each =
+      λ a. pressed_note c k v (channel_at m c) a;
+}
 message_captures m t (Control c n v) b z l = controller_captures m t c n v (role n) b z l
 message_captures m t (Program c p) b z l = same_notes m c (apply (channel_at m c) (Program c p)) refl
 message_captures m t (Pressure c v) b z l = same_notes m c (apply (channel_at m c) (Pressure c v)) refl

@@ -68,7 +68,7 @@ one_quiet law r e c now w good want low z s own = ap (λ es. (receive_all r es).
 several_quiet : Laws IsWellFormed → KeepsTheTuning → ReceiversStay → (o : Options) (table : Targets) (after out : Music) (e : MidiEvent) →
     e.tick < 2 ^ 28 → ((p : Pair) → IsWellFormed (wanted o table after p)) → (hs : List Held) → OnOwnChannels hs →
     AllByRecursion (CanBring o) hs → (r : Receiver) → r.music.zones ≡ no_zones → IsReached r.music → KeysFit o r.music.notes →
-        AllByRecursion (λ h. state_at r.music h.channel ≡ state_at out h.channel) hs →
+    AllByRecursion (λ h. state_at r.music h.channel ≡ state_at out h.channel) hs →
     (receive_all r (saying e (bring_all o table after out hs))).tuning ≡ r.tuning
 several_quiet laws law stay o table after out e tick good [] d can r z reached keys s = refl
 several_quiet laws law stay o table after out e tick good (h ∷ hs) d can r z reached keys s =
@@ -79,25 +79,25 @@ several_quiet laws law stay o table after out e tick good (h ∷ hs) d can r z r
     let own : channel_at m c ≡ channel_at out c = ap (λ (q : State). q.own) s.0 in
     let to : IsBroughtTo c e.tick w m (play m (saying e ms)) = subst (λ q. IsBroughtTo c e.tick w m (play m (saying e (bring c q w)))) s.0
     (laws.bringing.reaches m e c w z reached can.0.channel (all_weaker (λ n. is_part o n.channel ≡ true → n.key < 128)
-        (λ n. n.channel ≡ c → n.key < 128) (λ n f k. f (ap (is_part o) k ∙ can.0.part)) m.notes keys) (good h.pair)) in
+    (λ n. n.channel ≡ c → n.key < 128) (λ n f k. f (ap (is_part o) k ∙ can.0.part)) m.notes keys) (good h.pair)) in
     let f : Note → Note = brought_on c e.tick (channel_at out c) w in
     let notes : (play m (saying e ms)).notes ≡ map f m.notes = to.notes ∙ ap (λ q. map (brought_on c e.tick q w) m.notes) own in
     let x : Receiver = receive_all r (saying e ms) in
     let is : x.music ≡ play m (saying e ms) = music_all r (saying e ms) in
     let valid : AllByRecursion IsValidMsg ms = subst (λ q. AllByRecursion IsValidMsg (bring c q w)) s.0
-        (laws.bringing.valid m c w reached can.0.channel (good h.pair)) in
+    (laws.bringing.valid m c w reached can.0.channel (good h.pair)) in
     let states : AllByRecursion (λ g. state_at (play m (saying e ms)) g.channel ≡ state_at out g.channel) hs =
     all_weaker (λ g. (g.channel ≢ c) × (state_at m g.channel ≡ state_at out g.channel))
-        (λ g. state_at (play m (saying e ms)) g.channel ≡ state_at out g.channel)
+    (λ g. state_at (play m (saying e ms)) g.channel ≡ state_at out g.channel)
     (λ g q. state_kept g.channel m (play m (saying e ms)) f (to.others g.channel q.0) notes (on_channel c e.tick (channel_at out c) w)
-        (λ n k. on_elsewhere c e.tick (channel_at out c) w n (λ j. q.0 (sym k ∙ j))) ∙ q.1)
+    (λ n k. on_elsewhere c e.tick (channel_at out c) w n (λ j. q.0 (sym k ∙ j))) ∙ q.1)
     hs (all_both (λ g. g.channel ≢ c) (λ g. state_at m g.channel ≡ state_at out g.channel) hs d.0 s.1) in
     let first : x.tuning ≡ r.tuning = one_quiet law r e c (state_at out c) w (subst IsWellFormed s.0 (well_reached stay m c reached))
-        (good h.pair) can.0.channel z (settled_reached laws.settle m reached) (sym own) in
+    (good h.pair) can.0.channel z (settled_reached laws.settle m reached) (sym own) in
     ap (λ es. (receive_all r es).tuning) (saying_append e ms (bring_all o table after out hs)) ∙ ap (λ (y : Receiver). y.tuning)
-        (all_receive r (saying e ms) (saying e (bring_all o table after out hs)))
+    (all_receive r (saying e ms) (saying e (bring_all o table after out hs)))
     ∙ several_quiet laws law stay o table after out e tick good hs d.1 can.1 x (ap (λ (y : Music). y.zones) is ∙ to.zones ∙ z)
-        (subst IsReached (sym is) (reached_play m (saying e ms) (saying_valid e ms tick valid) reached))
+    (subst IsReached (sym is) (reached_play m (saying e ms) (saying_valid e ms tick valid) reached))
     (subst (λ (y : Music). KeysFit o y.notes) (sym is) (subst (KeysFit o) (sym notes) (keys_fit_on o c e.tick (channel_at out c) w m.notes keys)))
     (subst (λ y. AllByRecursion (λ g. state_at y g.channel ≡ state_at out g.channel) hs) (sym is) states)
     ∙ first
@@ -152,9 +152,12 @@ held_quiet laws law stay port o table used row k b e r h c =
     let used_old : (p : Pair) → Has k.holds p → used (k.old p) ≡ true = λ p i. h.sound.used_was p (h.sound.was_there p i) in
     let hs : List Held = held_by k.old c k.holds in
     several_quiet laws law stay o table (step b.source e) b.out e h.sound.valid.tick h.sound.good hs
-        (held_own k.old c k.holds h.sound.once (λ p q i g. h.sound.apart_was p q (h.sound.was_there p i) (h.sound.was_there q g)))
-    (held_all (CanBring o) k.old c k.holds (λ p i g. record { channel = row.channel (k.old p) (used_old p i); part = row.retuned (k.old p)
-        (used_old p i) })) r
+    (held_own k.old c k.holds h.sound.once (λ p q i g. h.sound.apart_was p q (h.sound.was_there p i) (h.sound.was_there q g)))
+    (held_all (CanBring o) k.old c k.holds (λ p i g. record {
+      channel = row.channel (k.old p) (used_old p i);
+      part = row.retuned (k.old p)
+          (used_old p i);
+    })) r
     (ap (λ (m : Music). m.zones) h.music ∙ h.follows.out_zones) (subst IsReached (sym h.music) h.follows.out_reached)
     (subst (λ (m : Music). KeysFit o m.notes) (sym h.music) (keys_fit port o table k.old b.source.notes b.out.notes h.follows.notes))
     (all_always (λ g. state_at r.music g.channel ≡ state_at b.out g.channel) (λ g. ap (λ m. state_at m g.channel) h.music) hs)
@@ -166,9 +169,9 @@ setup_quiet laws law stay port o table used row k b e r h p i true = refl
 setup_quiet laws law stay port o table used row k b e r h p i false =
     let d : ℕ = k.new p in
     one_quiet law r e d (state_at b.out d) (wanted o table (step b.source e) p) (well_reached stay b.out d h.follows.out_reached) (h.sound.good p)
-        (row.channel d (h.sound.used_is p i))
+    (row.channel d (h.sound.used_is p i))
     (ap (λ (m : Music). m.zones) h.music ∙ h.follows.out_zones) (subst IsSettled (sym h.music)
-        (settled_reached laws.settle b.out h.follows.out_reached)) (ap (λ m. channel_at m d) (sym h.music))
+    (settled_reached laws.settle b.out h.follows.out_reached)) (ap (λ m. channel_at m d) (sym h.music))
 
 -- the messages of a part
 controller_quiet : Laws IsWellFormed → KeepsTheTuning → ReceiversStay → (port : ℕ) (o : Options) (table : Targets) (used : ℕ → Bool) →
@@ -192,7 +195,7 @@ controller_quiet laws law stay port o table used row k b e r h c n v ResetContro
 strike_quiet : Laws IsWellFormed → KeepsTheTuning → ReceiversStay → (port : ℕ) (o : Options) (table : Targets) (used : ℕ → Bool) → AreUsed o used →
     (k : Moment) (b : Both) (e : MidiEvent) (r : Receiver) → Before port o table used k b e r → (c v : ℕ) (x : Option BendTarget) →
     ((t : BendTarget) → x ≡ Some t → Has k.is (pair_with port c t)) →
-        (receive_all r (saying e (strikes port o table k (step b.source e) b.out c v x))).tuning ≡ r.tuning
+    (receive_all r (saying e (strikes port o table k (step b.source e) b.out c v x))).tuning ≡ r.tuning
 strike_quiet laws law stay port o table used row k b e r h c v None there = refl
 strike_quiet laws law stay port o table used row k b e r h c v (Some t) there =
     let p : Pair = pair_with port c t in
@@ -200,19 +203,19 @@ strike_quiet laws law stay port o table used row k b e r h c v (Some t) there =
     let last : List Msg = NoteOn (k.new p) t.key v ∷ [] in
     ap (λ es. (receive_all r es).tuning) (saying_append e ms last) ∙ ap (λ (y : Receiver). y.tuning) (all_receive r (saying e ms) (saying e last))
     ∙ all_mute (receive_all r (saying e ms)) e last ((λ m s. refl), tt)
-        ∙ setup_quiet laws law stay port o table used row k b e r h p (there t refl) (is_member is_same_pair k.was p)
+    ∙ setup_quiet laws law stay port o table used row k b e r h p (there t refl) (is_member is_same_pair k.was p)
 
 part_quiet : Laws IsWellFormed → KeepsTheTuning → ReceiversStay → (port : ℕ) (o : Options) (table : Targets) (used : ℕ → Bool) → AreUsed o used →
     (k : Moment) (b : Both) (t track : ℕ) (msg : Msg) (r : Receiver) → Before port o table used k b (said_at t track msg) r →
     is_part o (channel_of msg) ≡ true →
     (receive_all r (saying (said_at t track msg) (part_causes port o table k b.source (step b.source (said_at t track msg)) b.out t msg))).tuning
-        ≡ r.tuning
+    ≡ r.tuning
 part_quiet laws law stay port o table used row k b t track (NoteOn c j zero) r h part = all_mute r (said_at t track (NoteOn c j zero))
     (note_released port o table k.old (λ d i. NoteOn d i zero) c (pressed_note c j b.source.notes))
     (released_mute port o table k.old (λ d i. NoteOn d i zero) (λ d i m s. refl) c (pressed_note c j b.source.notes))
 part_quiet laws law stay port o table used row k b t track (NoteOn c j (suc v)) r h part =
     strike_quiet laws law stay port o table used row k b (said_at t track (NoteOn c j (suc v))) r h c (suc v) (bend_target_if o.range (table j t))
-        (λ x aim. begun_there IsWellFormed port o table used k.old k.was k b t track c j v h.follows h.sound part x aim)
+    (λ x aim. begun_there IsWellFormed port o table used k.old k.was k b t track c j v h.follows h.sound part x aim)
 part_quiet laws law stay port o table used row k b t track (NoteOff c j v) r h part = all_mute r (said_at t track (NoteOff c j v))
     (note_released port o table k.old (λ d i. NoteOff d i v) c (pressed_note c j b.source.notes))
     (released_mute port o table k.old (λ d i. NoteOff d i v) (λ d i m s. refl) c (pressed_note c j b.source.notes))
@@ -271,7 +274,7 @@ passed_quiet used m Nothing s h q = q
 block_quiet : Laws IsWellFormed → KeepsTheTuning → ReceiversStay → (port : ℕ) (o : Options) (table : Targets) (used : ℕ → Bool) → AreUsed o used →
     (k : Moment) (b : Both) (t track : ℕ) (w : MidiWhat) (r : Receiver) →
     (let e : MidiEvent = record { tick = t; track = track; what = w } in Before port o table used k b e r → IsQuietOn used r.tuning →
-        IsQuietOn used (receive_all r (port_block port o table k b.source b.out e)).tuning)
+    IsQuietOn used (receive_all r (port_block port o table k b.source b.out e)).tuning)
 block_quiet laws law stay port o table used row k b t track (Says msg) r h q = elim (cases_Bool (is_part o (channel_of msg))) [
   | inl part ↦ subst (IsQuietOn used) (sym (ap (λ es. (receive_all r es).tuning)
       (part_block port o table k b.source b.out t track msg (part_causes port o table k b.source
@@ -297,7 +300,7 @@ blocks_quiet laws law stay o table used row plan ns last given (suc k) low =
 
     go : IsQuietOn used (receive_all start (blocks_to o table plan ns k)).tuning → (x : Option MidiEvent) → port_event ns (suc k) ≡ x →
         IsQuietOn used (receive_all start (blocks_to o table plan ns k ++ block_if plan.number o table (moment plan k)
-            (both_at o table plan ns k) x)).tuning
+        (both_at o table plan ns k) x)).tuning
     go q None is = subst (λ (y : Receiver). IsQuietOn used y.tuning) (sym (all_receive start (blocks_to o table plan ns k) [])) q
     go q (Some e) is =
         let r : Receiver = receive_all start (blocks_to o table plan ns k) in
@@ -308,7 +311,7 @@ blocks_quiet laws law stay o table used row plan ns last given (suc k) low =
           music = music_all start (blocks_to o table plan ns k) ∙ sym (out_is o table plan ns k);
         } in
         subst (λ (y : Receiver). IsQuietOn used y.tuning) (sym (all_receive start (blocks_to o table plan ns k)
-            (port_block plan.number o table (moment plan k) (both_at o table plan ns k).source (both_at o table plan ns k).out e)))
+        (port_block plan.number o table (moment plan k) (both_at o table plan ns k).source (both_at o table plan ns k).out e)))
         (block_quiet laws law stay plan.number o table used row (moment plan k) (both_at o table plan ns k) e.tick e.track e.what r before q)
 
 -- at every tick
@@ -318,4 +321,4 @@ pub is_untuned : Laws IsWellFormed → KeepsTheTuning → ReceiversStay → (o :
 is_untuned laws law stay o table used row plan ns last given timely t c u =
     let at : AtPosition o table plan ns last t = at_position o table plan ns last t timely in
     ap (λ es. selected_of (receive_all start es).tuning c) at.blocks
-        ∙ blocks_quiet laws law stay o table used row plan ns last given at.position at.within c u
+    ∙ blocks_quiet laws law stay o table used row plan ns last given at.position at.within c u

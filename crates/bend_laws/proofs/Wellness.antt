@@ -57,7 +57,7 @@ step_low m e v h =
     let g : GrowsTo m (begun_by m e.tick (doing e.what)) (step m e).notes = event_touches m e.tick (doing e.what) in
     subst KeysLow (sym g.notes) (all_append (λ (n : Note). n.key < 128) (map g.turn m.notes) (begun_by m e.tick (doing e.what))
     (all_mapped (λ (n : Note). n.key < 128) g.turn (λ (n : Note). n.key < 128) (λ n l. subst (λ k. k < 128) (sym (g.each n).same.key) l) m.notes h)
-        (new_low m e.tick e.what v.what))
+    (new_low m e.tick e.what v.what))
 
 pub record IsFineSource (m : Music) : Type 0 where
   pub reached : IsReached m
@@ -84,13 +84,13 @@ soft_notes : OneSounds → ReceiversStay → (m : Music) → IsFineSource m → 
 soft_notes one stay m h =
     let P : ℕ → Note → Type 0 = λ c n. sounds n ≡ true → n.channel ≡ c → key_pressure m.notes c n.key ≡ n.pressure in
     let own : AllByRecursion (λ n. P n.channel n) m.notes =
-        all_own P m.notes (λ c. own_pressure c m.notes (λ k. subst (λ (y : Music). sounding_on c k y.notes ≤ 1) (sym h.reached.is)
-        (one h.reached.events c k))) in
+    all_own P m.notes (λ c. own_pressure c m.notes (λ k. subst (λ (y : Music). sounding_on c k y.notes ≤ 1) (sym h.reached.is)
+    (one h.reached.events c k))) in
     all_weaker (λ n. P n.channel n × (n.key < 128)) Soft
     (λ n q s.
     let w : IsWellFormed (state_at m n.channel) = well_reached stay m n.channel h.reached in
     let at : get_or (state_at m n.channel).keys n.key 0 ≡ n.pressure = pressure_at m.notes n.channel 0 128 n.key q.1
-        ∙ ap (key_pressure m.notes n.channel) (let u : 0 + n.key ≡ n.key = omega arith in u) ∙ q.0 s refl in
+    ∙ ap (key_pressure m.notes n.channel) (let u : 0 + n.key ≡ n.key = omega arith in u) ∙ q.0 s refl in
     subst (λ p. p ≤ 127) at (w.key_bytes n.key))
     m.notes (all_both (λ n. P n.channel n) (λ (n : Note). n.key < 128) m.notes own h.low)
 
@@ -148,9 +148,9 @@ well_wanted : OneSounds → ReceiversStay → StaysWellFormedWith → (o : Optio
     (p : Pair) → IsWellFormed (wanted o table m p)
 well_wanted one stay given o table range m h p =
     given (state_at m p.part.channel) o.range (bend_value ((pos 8192 +ℤ p.steps) +ℤ bend_in_steps o.range (channel_at m p.part.channel)))
-        (wanted_keys o table p (sounding o m)) (well_reached stay m p.part.channel h.reached) range
+    (wanted_keys o table p (sounding o m)) (well_reached stay m p.part.channel h.reached) range
     (bend_fits ((pos 8192 +ℤ p.steps) +ℤ bend_in_steps o.range (channel_at m p.part.channel))) (wanted_wide o table p (sounding o m))
-        (soft_keys o table p (sounding o m) (soft_sounding o m.notes (soft_notes one stay m h)))
+    (soft_keys o table p (sounding o m) (soft_sounding o m.notes (soft_notes one stay m h)))
 
 pub wanted_at : OneSounds → ReceiversStay → StaysWellFormedWith → (o : Options) (table : Targets) → o.range ≤ 127 → (ns : List Numbered)
     (last : ℕ) → AreValidTo ns last → (k : ℕ) → k ≤ last → (p : Pair) → IsWellFormed (wanted o table (source_at ns k) p)

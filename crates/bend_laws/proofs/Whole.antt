@@ -38,6 +38,10 @@ pub stays : Cited → ReceiversStay
 stays c = receivers_stay c.receivers c.channels
 
 pub all_laws : Cited → Laws IsWellFormed
-all_laws c = record { bringing = bring_reaches c.settle (one_sounds c.one) (stays c) c.reaches c.valid c.plays; settle = c.settle; fade =
-    c.fade; zones = c.zones }
-
+all_laws c = record {
+  bringing = bring_reaches c.settle (one_sounds c.one) (stays c) c.reaches c.valid c.plays;
+  settle = c.settle;
+  fade =
+      c.fade;
+  zones = c.zones;
+}

@@ -28,7 +28,7 @@ OfBent P = (o : Options) (allowed : ℕ → Bool) (table : Targets) (es : List M
 abbrev pub PortsPlay : Type 0
 PortsPlay = OfBent (λ o allowed table es need channel. (z k : ℕ) → k ≤ length es →
     (let runs = runs_on o table es channel z in PlaysAt o table (uses o allowed (need z)) runs (of_port z es) k
-        (both_at o table runs (of_port z es) k)))
+    (both_at o table runs (of_port z es) k)))
 
 -- the musics there are those of the port's events up to the position, and of what is written for them
 abbrev pub PortsAreTheirEvents : Type 0

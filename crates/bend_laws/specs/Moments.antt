@@ -1,7 +1,7 @@
 -- The events of one port, with what is written for them on the bend route and how its channels are left (this project's own). A pair
 -- of a part and a bend has a channel of its own for as long as its run lasts, which may be longer than its notes sound; the events of
 -- other ports count as positions too.
-use Rattle.std.specs.Prelude.{ℕ, suc, List, [], ◌∷◌, Bool, true, false, not, if◌then◌else◌, Option, Some, None, filter}
+use Rattle.std.specs.Prelude.{ℕ, suc, List, [], Bool, true, false, not, if◌then◌else◌, Option, Some, None, filter}
 use Rattle.std.specs.Set.{is_member}
 use Rattle.mt_base.specs.declared.event.Msg.{Msg}
 use Rattle.mt_base.specs.Midi.{MidiWhat, MidiEvent}

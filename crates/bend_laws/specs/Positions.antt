@@ -1,21 +1,11 @@
 -- The events of one port at the positions of its file, and the musics there.
-use Rattle.std.specs.Prelude.{◌≡◌, ◌<◌, ◌≤◌, ◌++◌, ℕ, zero, suc, List, [], ◌∷◌, Bool, true, false, nat_eq, nat_le, filter, if◌then◌else◌, Option, Some, None}
-use Rattle.std.specs.List.{IsDistinct}
-use Rattle.std.specs.Set.{is_member}
-use Rattle.retune_model.specs.Pairs.{Pair, is_same_pair}
-use Rattle.mt_base.specs.Valid.{IsValidEvent}
+use Rattle.std.specs.Prelude.{ℕ, zero, suc, List, [], ◌∷◌, nat_eq, nat_le, filter, if◌then◌else◌, Option, Some, None}
 use Rattle.mt_base.specs.Midi.{MidiEvent}
-use Rattle.midi_model.specs.Sysex.{Resets, doing}
-use Rattle.midi_model.specs.Channel.{State}
-use Rattle.midi_model.specs.Music.{Music, quiet, step}
 use Rattle.retune_model.specs.Options.{Options}
-use Rattle.retune_model.specs.Faults.{Targets, is_part}
+use Rattle.retune_model.specs.Faults.{Targets}
 use Rattle.retune_model.specs.Ports.{Numbered}
-use Rattle.channel_model.specs.Choice.{wanted}
 use Rattle.channel_model.specs.BendOutput.{PortRuns}
-use Rattle.retune_model.specs.SourceFaults.{kind_in}
-use Rattle.bend_laws.specs.Moments.{Moment, Both, nothing_yet, port_block, next_both, moment}
-use Rattle.bend_laws.specs.Follows.{Has, SoundAmong, Begins}
+use Rattle.bend_laws.specs.Moments.{Moment, Both, nothing_yet, next_both, moment}
 
 -- the port's event at a position, where there is one
 abbrev pub port_event : List Numbered → ℕ → Option MidiEvent

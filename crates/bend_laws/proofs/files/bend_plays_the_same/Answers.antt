@@ -13,58 +13,58 @@ use Rattle.bend_laws.proofs.files.bend_plays_the_same.Goals as goal
 
 pub returns : goal.returns
 returns c =
-  let below : Cited = record {
-    settle = c.music_laws.ensures.settled;
-    fade = c.music_laws.ensures.fade;
-    zones = c.zone_entries_set_zones.ensures;
-    one = c.receiver_laws.ensures.one_note;
-    receivers = c.states_stay_well_formed.ensures.receivers;
-    channels = c.states_stay_well_formed.ensures.channels;
-    reaches = c.bring_reaches.ensures.wanted;
-    valid = c.messages_only_set.ensures.valid;
-    plays = c.a_receiver_follows.ensures.plays;
-  } in
-  let laws : Laws IsWellFormed = all_laws below in
-  let stay : ReceiversStay = stays below in
-  let once : HeldStandOnce = λ o part table port k. stand_once (held_at o part table port k) (c.pairs_in_order.ensures.held o part table port k) in
-  let facts : PortFacts = record {
-    within = c.held_laws.ensures.within;
-    sounding = c.held_laws.ensures.sounding;
-    next = c.held_laws.ensures.next;
-    once = once;
-    pairs = c.rests_are_runs.ensures.pairs;
-    one = c.rests_are_runs.ensures.one_begins;
-    reset = c.elsewhere.ensures.reset;
-    aimed = c.sound_sources.ensures.aimed;
-    fine = c.sound_sources.ensures.fine;
-    timed = c.position_laws.ensures.timed;
-    free = c.best_is_free.ensures.shortest;
-    one_sounds = one_sounds c.receiver_laws.ensures.one_note;
-    stay = stay;
-    given = c.states_stay_well_formed.ensures.given;
-  } in
-  let music : MusicLaws = record {
-    laws = laws;
-    given = c.parameter_laws.ensures.given;
-    others = c.parameter_laws.ensures.others;
-    tuning = c.a_receiver_follows.ensures.tuning;
-    stay = stay;
-    pitches = record {
-      least_of_sum = c.sums.ensures.least;
-      most_of_sum = c.sums.ensures.most;
-      least_of_exact = c.exact.ensures.least;
-      most_of_exact = c.exact.ensures.most;
-      least_of_less = c.wider.ensures.least;
-      most_of_more = c.wider.ensures.most;
-    };
-  } in
-  record {
-    ports = λ o allowed table es need channel b z k low. port_plays laws facts o allowed table es need channel b z k low;
-    source = λ o allowed table es need channel b z k. source_is_played o table (runs_on o table es channel z)
-        (of_port z es) k (timely_port facts.timed o allowed table es need channel b z).rising;
-    out = λ o allowed table es need channel b z k. port_blocks facts o allowed table es need channel b z k;
-    same = λ o allowed table es need channel b scaling tuned. same_file music facts c.outputs_apart.ensures.bend o allowed table es need channel b scaling tuned;
-    playable = λ o allowed table es need channel b tracks playable. file_playable laws facts c.outputs_apart.ensures.bend o allowed table es need channel b tracks playable;
-    left = λ o allowed table es need channel b z instant row plan k i low small free. port_left laws facts o allowed table es need channel b z instant row plan k i low small free;
-    on_row = λ o allowed table es need channel b z. file_used laws facts c.outputs_apart.ensures.bend o allowed table es need channel b z;
-  }
+    let below : Cited = record {
+      settle = c.music_laws.ensures.settled;
+      fade = c.music_laws.ensures.fade;
+      zones = c.zone_entries_set_zones.ensures;
+      one = c.receiver_laws.ensures.one_note;
+      receivers = c.states_stay_well_formed.ensures.receivers;
+      channels = c.states_stay_well_formed.ensures.channels;
+      reaches = c.bring_reaches.ensures.wanted;
+      valid = c.messages_only_set.ensures.valid;
+      plays = c.a_receiver_follows.ensures.plays;
+    } in
+    let laws : Laws IsWellFormed = all_laws below in
+    let stay : ReceiversStay = stays below in
+    let once : HeldStandOnce = λ o part table port k. stand_once (held_at o part table port k) (c.pairs_in_order.ensures.held o part table port k) in
+    let facts : PortFacts = record {
+      within = c.held_laws.ensures.within;
+      sounding = c.held_laws.ensures.sounding;
+      next = c.held_laws.ensures.next;
+      once = once;
+      pairs = c.rests_are_runs.ensures.pairs;
+      one = c.rests_are_runs.ensures.one_begins;
+      reset = c.elsewhere.ensures.reset;
+      aimed = c.sound_sources.ensures.aimed;
+      fine = c.sound_sources.ensures.fine;
+      timed = c.position_laws.ensures.timed;
+      free = c.best_is_free.ensures.shortest;
+      one_sounds = one_sounds c.receiver_laws.ensures.one_note;
+      stay = stay;
+      given = c.states_stay_well_formed.ensures.given;
+    } in
+    let music : MusicLaws = record {
+      laws = laws;
+      given = c.parameter_laws.ensures.given;
+      others = c.parameter_laws.ensures.others;
+      tuning = c.a_receiver_follows.ensures.tuning;
+      stay = stay;
+      pitches = record {
+        least_of_sum = c.sums.ensures.least;
+        most_of_sum = c.sums.ensures.most;
+        least_of_exact = c.exact.ensures.least;
+        most_of_exact = c.exact.ensures.most;
+        least_of_less = c.wider.ensures.least;
+        most_of_more = c.wider.ensures.most;
+      };
+    } in
+    record {
+      ports = λ o allowed table es need channel b z k low. port_plays laws facts o allowed table es need channel b z k low;
+      source = λ o allowed table es need channel b z k. source_is_played o table (runs_on o table es channel z)
+          (of_port z es) k (timely_port facts.timed o allowed table es need channel b z).rising;
+      out = λ o allowed table es need channel b z k. port_blocks facts o allowed table es need channel b z k;
+      same = λ o allowed table es need channel b scaling tuned. same_file music facts c.outputs_apart.ensures.bend o allowed table es need channel b scaling tuned;
+      playable = λ o allowed table es need channel b tracks playable. file_playable laws facts c.outputs_apart.ensures.bend o allowed table es need channel b tracks playable;
+      left = λ o allowed table es need channel b z instant row plan k i low small free. port_left laws facts o allowed table es need channel b z instant row plan k i low small free;
+      on_row = λ o allowed table es need channel b z. file_used laws facts c.outputs_apart.ensures.bend o allowed table es need channel b z;
+    }
