@@ -252,14 +252,4 @@ impl Notes {
         let all = &self.sounding.as_slice()[place..];
         &all[..all.partition_point(|note| note.steps == steps)]
     }
-
-    /// The notes that sound whose targets have at least so many steps.
-    pub fn all_from(&self, steps: i32) -> &[Sounding] {
-        let place = self.from(Sounding {
-            steps,
-            target: 0,
-            key: 0,
-        });
-        &self.sounding.as_slice()[place..]
-    }
 }
