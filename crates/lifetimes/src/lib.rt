@@ -16,6 +16,8 @@ mod port_faults;
 mod rests;
 mod source;
 mod step;
+#[cfg(test)]
+mod tests;
 mod tracks;
 mod wanted;
 
