@@ -1,11 +1,11 @@
 -- The sentences of a file: those of its ports, and those of all its events.
-use Rattle.std.proofs.Common.{◌≡◌, ◌≤◌, ◌<◌, ℕ, Bool, List, ap, sym, ◌∙◌, subst, length, get_or}
+use Rattle.std.proofs.Common.{◌≡◌, ◌≤◌, ◌<◌, ℕ, Bool, List, ap, sym, ◌∙◌, subst, length, get_or, suc, true, arith}
 use Rattle.std.specs.List.{AllByRecursion}
 use Rattle.mt_base.specs.Midi.{MidiEvent}
 use Rattle.mt_base.specs.Valid.{IsValidEvent}
 use Rattle.midi_model.specs.WellFormed.{IsWellFormed}
 use Rattle.midi_model.specs.Merged.{IsPlayable}
-use Rattle.midi_model.specs.Music.{quiet, channel_at, play}
+use Rattle.midi_model.specs.Music.{quiet, channel_at, play, Music, state_at}
 use Rattle.retune_model.specs.Table.{Scaling}
 use Rattle.retune_model.specs.Options.{Options}
 use Rattle.retune_model.specs.Ports.{of_port, port_at, events_on, all_zero}
@@ -18,15 +18,15 @@ use Rattle.channel_model.specs.Rows.{used_row, IsBendPlan}
 use Rattle.bend_laws.specs.Brought.{IsSameAside}
 use Rattle.channel_model.specs.Laws.{BentPorts}
 use Rattle.channel_model.specs.BendOutput.{PortRuns, runs_on, bend_output}
-use Rattle.bend_laws.specs.Moments.{port_output}
-use Rattle.bend_laws.specs.Follows.{AreUsed}
+use Rattle.bend_laws.specs.Moments.{port_output, Both}
+use Rattle.bend_laws.specs.Follows.{AreUsed, SoundAmong, Follows}
 use Rattle.bend_laws.specs.Positions.{both_at, up_to_position}
 use Rattle.bend_laws.proofs.Planning.{IsPlanned}
-use Rattle.bend_laws.specs.Simulation.{PlaysAt}
+use Rattle.bend_laws.specs.Simulation.{PlaysAt, IsState}
 use Rattle.bend_laws.proofs.Ticks.{AreTimely}
 use Rattle.bend_laws.specs.Bent.{uses, IsBent, IsTuned, IsOnUsed, NoneHeld}
 use Rattle.bend_laws.proofs.Given.{Laws}
-use Rattle.bend_laws.proofs.Shown.{plays_at}
+use Rattle.bend_laws.proofs.Shown.{plays_at, free_silent}
 use Rattle.bend_laws.proofs.Outputs.{out_is, blocks_are}
 use Rattle.bend_laws.proofs.Righting.{output_valid, output_used, keeps_all_drums}
 use Rattle.bend_laws.proofs.Musical.{MusicLaws, same_music}
@@ -35,8 +35,10 @@ use Rattle.bend_laws.proofs.Orderly.{output_playable}
 use Rattle.bend_laws.proofs.Rows.{row_used, lane_used, lane_apart}
 use Rattle.bend_laws.proofs.Placing.{all_of_ports}
 use Rattle.bend_laws.proofs.Ported.{PortFacts, timely_port, planned_port, placed_on}
-use Rattle.bend_laws.proofs.Simulates.{follows_at}
+use Rattle.bend_laws.proofs.Simulates.{follows_at, source_is}
 use Rattle.bend_laws.proofs.Leaving.{IsLane, left_as}
+use Rattle.bend_laws.proofs.States.{silent_pressures}
+use Rattle.bend_laws.proofs.Quieting.{keys_as}
 
 -- a port of the file, with its plan
 record OnPort (o : Options) (allowed : ℕ → Bool) (table : Targets) (es : List MidiEvent) (need : ℕ → ℕ) (channel : ℕ → ℕ → Pair → ℕ)
@@ -116,9 +118,9 @@ file_used laws f ports o allowed table es need channel b z =
 
 pub port_left : Laws IsWellFormed → PortFacts → (o : Options) (allowed : ℕ → Bool) (table : Targets) (es : List MidiEvent) (need : ℕ → ℕ)
     (channel : ℕ → ℕ → Pair → ℕ) → IsBent o allowed table es need channel →
-    (z instant : ℕ) (row : ℕ → ℕ) → IsBendPlan o allowed table es z (need z) instant row (channel z) → (k i : ℕ) → k ≤ length es → i < need z →
+    (z instant : ℕ) (row : ℕ → ℕ) → IsBendPlan o allowed table es z (need z) instant row (channel z) → (k i : ℕ) → k < length es → i < need z →
     (let runs = runs_on o table es channel z in let c = get_or (used_row o allowed (need z)) i 0 in
-    NoneHeld runs k c → IsSameAside (channel_at (both_at o table runs (of_port z es) k).out c) (from_state o table (port_at es z) row i k).own)
+    NoneHeld runs k c → IsState (state_at (both_at o table runs (of_port z es) k).out c) (from_state o table (port_at es z) row i k))
 port_left laws f o allowed table es need channel b z instant row plan k i low small free =
     let n : ℕ = need z in
     let runs : PortRuns = runs_on o table es channel z in
@@ -130,7 +132,19 @@ port_left laws f o allowed table es need channel b z instant row plan k i low sm
       there = λ j q l m h. lane_apart o allowed n plan.within (row (since is_same_pair runs.pairs q j)) i
           ((placed_on f o allowed table es need channel b z instant row plan j l).below q m) small (sym (plan.given j q) ∙ h);
     } in
-    subst (IsSameAside (channel_at (both_at o table runs (of_port z es) k).out c))
-    (left_as IsWellFormed laws o table (uses o allowed n) p.used runs (port_at es z) (length es) p.planned p.timely.rising row i c lane k low free)
-    ((follows_at IsWellFormed laws o table (uses o allowed n) p.used runs (of_port z es)
-    (length es) p.planned k low).states c (lane_used o allowed n plan.within i small))
+    let here : Both = both_at o table runs (of_port z es) k in
+    let u : uses o allowed n c ≡ true = lane_used o allowed n plan.within i small in
+    let at_most : k ≤ length es = omega (arith, low) in
+    let follows : Follows IsWellFormed z o table (uses o allowed n) (runs.channel k) (runs.pairs k) here =
+    follows_at IsWellFormed laws o table (uses o allowed n) p.used runs (of_port z es) (length es) p.planned k at_most in
+    let among : SoundAmong z o table (runs.held (suc k)) here.source.notes =
+    subst (λ (m : Music). SoundAmong z o table (runs.held (suc k)) m.notes) (sym (source_is o table runs (of_port z es) k)) (p.planned.held k low) in
+    record {
+      own = subst (IsSameAside (channel_at here.out c))
+          (left_as IsWellFormed laws o table (uses o allowed n) p.used runs (port_at es z) (length es) p.planned p.timely.rising row i c lane k
+          at_most free)
+          (follows.states c u);
+      keys = silent_pressures c here.out.notes
+          (free_silent z o table (uses o allowed n) p.used (runs.channel k) (runs.held (suc k)) here follows.notes among c u free) 0 128
+          ∙ sym (keys_as IsWellFormed o table (uses o allowed n) runs (port_at es z) (length es) p.planned p.timely.rising row i c lane k low free);
+    }

@@ -63,6 +63,21 @@ pub record IsLane (plan : PortRuns) (last : ℕ) (row : ℕ → ℕ) (i c : ℕ)
   pub here : (k : ℕ) (p : Pair) → k ≤ last → Has (plan.pairs k) p → row (since is_same_pair plan.pairs p k) ≡ i → plan.channel k p ≡ c
   pub there : (k : ℕ) (p : Pair) → k ≤ last → Has (plan.pairs k) p → plan.channel k p ≡ c → row (since is_same_pair plan.pairs p k) ≡ i
 
+-- a run that holds its channel at the event behind a position is the last on its place there
+pub before_is : (Good : State → Type 0) (o : Options) (table : Targets) (used : ℕ → Bool) (plan : PortRuns) (ns : List Numbered) (last : ℕ) →
+    IsPlanned Good o table used plan ns last → (reset : ℕ → Bool) (row : ℕ → ℕ) (i c : ℕ) → IsLane plan last row i c →
+    (k : ℕ) → k < last → (p : Pair) → Found (plan.channel k) c (plan.held (suc k)) p → last_on reset plan.pairs row i k ≡ Some (k, p)
+before_is Good o table used plan ns last given reset row i c lane k low p r =
+    last_is reset plan.pairs row i k p given.start (one (given.was_there k p low r.there) (pair_on plan.pairs row i k) refl)
+  where
+    one : Has (plan.pairs k) p → (x : Option Pair) → pair_on plan.pairs row i k ≡ x → pair_on plan.pairs row i k ≡ Some p
+    one was None h = absurd (not_found (λ q. row (since is_same_pair plan.pairs q k)) i (plan.pairs k) h p was
+        (lane.there k p (omega (arith, low)) was r.on))
+    one was (Some q) h =
+        let g : Found (λ y. row (since is_same_pair plan.pairs y k)) i (plan.pairs k) q =
+        found (λ y. row (since is_same_pair plan.pairs y k)) i (plan.pairs k) q h in
+        h ∙ ap Some (given.apart k q p (omega (arith, low)) g.there was (lane.here k q (omega (arith, low)) g.there g.on ∙ sym r.on))
+
 pub left_as : (Good : State → Type 0) → Laws Good → (o : Options) (table : Targets) (used : ℕ → Bool) → AreUsed o used → (plan : PortRuns)
     (port : PortEvents) (last : ℕ) → IsPlanned Good o table used plan port.events last → Ascend 0 port.events →
     (row : ℕ → ℕ) (i c : ℕ) → IsLane plan last row i c → (k : ℕ) → k ≤ last → NoneHeld plan k c →
@@ -110,19 +125,8 @@ left_as Good laws o table used row_used plan port last given rising row i c lane
     -- none is there, and one held its channel at the event
     held_one : (p : Pair) → Found (plan.channel k) c (plan.held (suc k)) p → left_of before ≡ (wanted o table (music_at port.events (suc k)) p).own
     held_one p r =
-        let was : Has (plan.pairs k) p = given.was_there k p low r.there in
-        let it : pair_on plan.pairs row i k ≡ Some p = one p was r.on (pair_on plan.pairs row i k) refl in
-        ap left_of (last_is (is_reset_at port.events) plan.pairs row i k p given.start it)
+        ap left_of (before_is Good o table used plan port.events last given (is_reset_at port.events) row i c lane k low p r)
         ∙ ap (λ x. (wanted o table (music_at port.events (cond x (suc k) k)) p).own) r.there
-      where
-        one : (p : Pair) → Has (plan.pairs k) p → plan.channel k p ≡ c → (x : Option Pair) → pair_on plan.pairs row i k ≡ x →
-            pair_on plan.pairs row i k ≡ Some p
-        one p was on None h = absurd (not_found (λ q. row (since is_same_pair plan.pairs q k)) i (plan.pairs k) h p was
-            (lane.there k p (omega (arith, low)) was on))
-        one p was on (Some q) h =
-            let g : Found (λ y. row (since is_same_pair plan.pairs y k)) i (plan.pairs k) q =
-            found (λ y. row (since is_same_pair plan.pairs y k)) i (plan.pairs k) q h in
-            h ∙ ap Some (given.apart k q p (omega (arith, low)) g.there was (lane.here k q (omega (arith, low)) g.there g.on ∙ sym on))
 
     -- no run begins on it
     none_begins : pair_on plan.pairs row i (suc k) ≡ None → (x : Option Pair) → on_place (plan.channel (suc k)) c (begins_here (moment plan k))

@@ -30,6 +30,7 @@ pub mod Planned
 pub mod Planning
 pub mod Playing
 pub mod Ported
+pub mod Quieting
 pub mod Releasing
 pub mod Righting
 pub mod Rows

@@ -11,7 +11,7 @@ use Rattle.midi_model.specs.Notes.{Note, sounds, cut_off}
 use Rattle.midi_model.specs.Music.{Music, channel_at, key_pressure}
 use Rattle.retune_model.specs.Table.{BendTarget}
 use Rattle.retune_model.specs.Options.{Options}
-use Rattle.retune_model.specs.PlaysTheSame.{bend_target_if}
+use Rattle.retune_model.specs.PlaysTheSame.{Pairwise, bend_target_if}
 use Rattle.retune_model.specs.Faults.{Targets, is_part, target_of}
 use Rattle.retune_model.specs.Ports.{Numbered}
 use Rattle.channel_model.specs.Choice.{wanted_keys}
@@ -86,10 +86,10 @@ channels_at Good laws o table used row plan ns last given (suc k) low =
 
 -- ---- channels on which nothing is
 
-free_silent : (Good : State → Type 0) (port : ℕ) (o : Options) (table : Targets) (used : ℕ → Bool) → AreUsed o used → (place : Pair → ℕ)
-    (there : List Pair) (b : Both) → Follows Good port o table used place there b → SoundAmong port o table there b.source.notes →
+pub free_silent : (port : ℕ) (o : Options) (table : Targets) (used : ℕ → Bool) → AreUsed o used → (place : Pair → ℕ)
+    (there : List Pair) (b : Both) → Pairwise (IsMatched port o table place) b.source.notes b.out.notes → SoundAmong port o table there b.source.notes →
     (c : ℕ) → used c ≡ true → ((p : Pair) → Has there p → place p ≢ c) → AllByRecursion (λ n. n.channel ≡ c → sounds n ≡ false) b.out.notes
-free_silent Good port o table used row place there b follows among c u free =
+free_silent port o table used row place there b matched among c u free =
     let all : Note → Type 0 = λ a. is_part o a.channel ≡ true → sounds a ≡ true → IsAmong port there a.channel (target_of o table a) in
     pair_second (λ x y. IsMatched port o table place x y × all x) (λ n. n.channel ≡ c → sounds n ≡ false)
     (λ x y q on. false_from_ne_true (sounds y) (λ s.
@@ -97,7 +97,7 @@ free_silent Good port o table used row place there b follows among c u free =
     let h : IsPlayedBy port o table place x y = q.0.played part in
     let sx : sounds x ≡ true = sym (output_sounds port o table place x y h) ∙ s in
     free (pair_with port x.channel h.target) (subst (IsAmong port there x.channel) h.aim (q.1 part sx)) (sym (h.sounding sx).channel ∙ on)))
-    b.source.notes b.out.notes (pair_along (IsMatched port o table place) all b.source.notes b.out.notes follows.notes among)
+    b.source.notes b.out.notes (pair_along (IsMatched port o table place) all b.source.notes b.out.notes matched among)
 
 -- ---- all at once
 
@@ -122,11 +122,11 @@ plays_at Good laws o table used row plan ns last given k low =
             (plan.pairs k) p (given.ports k p low i) (row.retuned (plan.channel k p) (given.used_at k p low i))
             (λ q g same. given.apart k q p low g i same) i0 b.source.notes b.out.notes follows.notes among);
       };
-      silent = λ c u free. free_silent Good plan.number o table used row (plan.channel k) (plan.pairs k) b follows among c u free;
+      silent = λ c u free. free_silent plan.number o table used row (plan.channel k) (plan.pairs k) b follows.notes among c u free;
       left = λ c u free. record {
         own = follows.states c u;
-        keys = silent_pressures c b.out.notes (free_silent Good plan.number o table used row (plan.channel k)
-            (plan.pairs k) b follows among c u free) 0 128;
+        keys = silent_pressures c b.out.notes (free_silent plan.number o table used row (plan.channel k)
+            (plan.pairs k) b follows.notes among c u free) 0 128;
       };
     }
   where

@@ -114,7 +114,7 @@ pass port o table p d i a b ns xs t aim h off other rest =
     ∙ ap (λ q. get_or (cond q (set W t.key a.pressure) W) i 0) other)
 
 -- a pair of the port is told by its channel and its steps
-at_port : (port c : ℕ) (t : BendTarget) (p : Pair) → p.part.port ≡ port → is_same_pair (pair_with port c t) p
+pub at_port : (port c : ℕ) (t : BendTarget) (p : Pair) → p.part.port ≡ port → is_same_pair (pair_with port c t) p
     ≡ (nat_eq c p.part.channel && int_eq t.steps p.steps)
 at_port port c t p e = ap (λ b. (b && nat_eq c p.part.channel) && int_eq t.steps p.steps) (eq-eqb port p.part.port (sym e))
 

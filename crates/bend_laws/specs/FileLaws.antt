@@ -3,7 +3,7 @@ use Rattle.std.specs.Prelude.{◌≡◌, ◌≤◌, ◌<◌, ℕ, Bool, List, le
 use Rattle.std.specs.List.{AllByRecursion}
 use Rattle.mt_base.specs.Midi.{MidiEvent}
 use Rattle.midi_model.specs.Merged.{IsPlayable}
-use Rattle.midi_model.specs.Music.{quiet, channel_at, play}
+use Rattle.midi_model.specs.Music.{quiet, play, state_at}
 use Rattle.retune_model.specs.Table.{Scaling}
 use Rattle.retune_model.specs.Options.{Options}
 use Rattle.retune_model.specs.Ports.{of_port, port_at, events_on, music_at}
@@ -14,9 +14,8 @@ use Rattle.channel_model.specs.Choice.{from_state}
 use Rattle.channel_model.specs.Rows.{used_row, IsBendPlan}
 use Rattle.channel_model.specs.BendOutput.{runs_on, bend_output}
 use Rattle.bend_laws.specs.Moments.{port_output}
-use Rattle.bend_laws.specs.Brought.{IsSameAside}
 use Rattle.bend_laws.specs.Positions.{both_at, up_to_position}
-use Rattle.bend_laws.specs.Simulation.{PlaysAt}
+use Rattle.bend_laws.specs.Simulation.{IsState, PlaysAt}
 use Rattle.bend_laws.specs.Bent.{uses, IsBent, IsTuned, IsOnUsed, NoneHeld}
 
 -- a sentence about a source with a plan for each of its ports
@@ -58,6 +57,6 @@ BentIsOnTheRow = OfBent (λ o allowed table es need channel. (z : ℕ) → AllBy
 -- selected aside: what its last run's pair needed right after the last event at which it was held. `i` is its place of the row.
 abbrev pub PortsAreLeft : Type 0
 PortsAreLeft = OfBent (λ o allowed table es need channel. (z instant : ℕ) (row : ℕ → ℕ) →
-    IsBendPlan o allowed table es z (need z) instant row (channel z) → (k i : ℕ) → k ≤ length es → i < need z →
+    IsBendPlan o allowed table es z (need z) instant row (channel z) → (k i : ℕ) → k < length es → i < need z →
     (let runs = runs_on o table es channel z in let c = get_or (used_row o allowed (need z)) i 0 in
-    NoneHeld runs k c → IsSameAside (channel_at (both_at o table runs (of_port z es) k).out c) (from_state o table (port_at es z) row i k).own))
+    NoneHeld runs k c → IsState (state_at (both_at o table runs (of_port z es) k).out c) (from_state o table (port_at es z) row i k)))
