@@ -242,7 +242,8 @@ message_alike law scaling port o table used row k b t track msg es xs here heard
             (part_causes port o table k b.source (step b.source e) b.out t msg) part refl)
             ∙ no_beginnings (is_part o) xs e (part_causes port o table k b.source (step b.source e) b.out t msg)
             (part_none port o table k b.source (step b.source e) b.out t msg none))
-        | inr (c, j, v, same) ↦ subst Goal (sym same) (λ p h g. note_alike law scaling port o table used row k b t track c j v es xs h p g) part here heard
+        | inr (c, j, v, same) ↦ subst Goal (sym same)
+            (λ p h g. note_alike law scaling port o table used row k b t track c j v es xs h p g) part here heard
       ]
     ]
   where

@@ -1,5 +1,5 @@
 -- The state in which a channel was left has no key pressed.
-use Rattle.std.proofs.Common.{◌≡◌, ◌≢◌, ◌<◌, ◌≤◌, ◌&&◌, ℕ, zero, suc, Bool, true, false, cond, List, [], ◌∷◌, Option, Some, None, refl, ap, sym, ◌∙◌, subst, filter, nat_eq, replicate, arith, inl, inr}
+use Rattle.std.proofs.Common.{◌≡◌, ◌<◌, ◌≤◌, ◌&&◌, ℕ, zero, suc, Bool, true, false, cond, List, [], ◌∷◌, Option, Some, None, refl, ap, sym, ◌∙◌, subst, filter, replicate, arith, inl, inr}
 use Rattle.std.specs.Set.{is_member}
 use Rattle.std.proofs.lemmas.Bool.{cases_Bool, both_ways, false_from_ne_true, and_parts}
 use Rattle.midi_model.specs.Channel.{State}
@@ -8,8 +8,8 @@ use Rattle.midi_model.specs.Music.{Music}
 use Rattle.retune_model.specs.Table.{BendTarget}
 use Rattle.retune_model.specs.Options.{Options}
 use Rattle.retune_model.specs.Faults.{Targets, is_part, target_of}
-use Rattle.retune_model.specs.Ports.{Numbered, PortEvents, Ascend, music_at, is_reset_at}
-use Rattle.retune_model.specs.Pairs.{Pair, is_same_pair, sounding}
+use Rattle.retune_model.specs.Ports.{PortEvents, Ascend, music_at, is_reset_at}
+use Rattle.retune_model.specs.Pairs.{Pair, is_same_pair}
 use Rattle.retune_model.specs.Runs.{since}
 use Rattle.channel_model.specs.Choice.{wanted, wanted_keys, key_set, has_pair, on_place, pair_on, last_or, last_on, left_state}
 use Rattle.channel_model.specs.BendOutput.{PortRuns, pair_with}
@@ -77,7 +77,8 @@ keys_as Good o table used plan port last given rising row i c lane (suc k) low f
         ap (λ x. (wanted o table (music_at port.events (cond x (suc (suc k)) (suc k))) p).keys) gone
         ∙ silent p (plan.held (suc (suc k))) (suc k) (given.ports (suc k) p at_most r.there) gone (given.held (suc k) low)
 
-    held_one : pair_on plan.pairs row i (suc k) ≡ None → (p : Pair) → Found (plan.channel k) c (plan.held (suc k)) p → keys_of before ≡ replicate 128 0
+    held_one : pair_on plan.pairs row i (suc k) ≡ None → (p : Pair) → Found (plan.channel k) c (plan.held (suc k)) p →
+        keys_of before ≡ replicate 128 0
     held_one h p r =
         let at_most : suc k ≤ last = omega (arith, low) in
         let was : Has (plan.pairs k) p = given.was_there k p at_most r.there in

@@ -87,7 +87,8 @@ channels_at Good laws o table used row plan ns last given (suc k) low =
 -- ---- channels on which nothing is
 
 pub free_silent : (port : ℕ) (o : Options) (table : Targets) (used : ℕ → Bool) → AreUsed o used → (place : Pair → ℕ)
-    (there : List Pair) (b : Both) → Pairwise (IsMatched port o table place) b.source.notes b.out.notes → SoundAmong port o table there b.source.notes →
+    (there : List Pair) (b : Both) → Pairwise (IsMatched port o table place) b.source.notes b.out.notes →
+    SoundAmong port o table there b.source.notes →
     (c : ℕ) → used c ≡ true → ((p : Pair) → Has there p → place p ≢ c) → AllByRecursion (λ n. n.channel ≡ c → sounds n ≡ false) b.out.notes
 free_silent port o table used row place there b matched among c u free =
     let all : Note → Type 0 = λ a. is_part o a.channel ≡ true → sounds a ≡ true → IsAmong port there a.channel (target_of o table a) in

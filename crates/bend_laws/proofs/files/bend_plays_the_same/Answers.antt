@@ -59,12 +59,12 @@ returns c =
       };
     } in
     record {
-      ports = λ o allowed table es need channel b z k low. port_plays laws facts o allowed table es need channel b z k low;
+      ports = port_plays laws facts;
       source = λ o allowed table es need channel b z k. source_is_played o table (runs_on o table es channel z)
           (of_port z es) k (timely_port facts.timed o allowed table es need channel b z).rising;
-      out = λ o allowed table es need channel b z k. port_blocks facts o allowed table es need channel b z k;
-      same = λ o allowed table es need channel b scaling tuned. same_file music facts c.outputs_apart.ensures.bend o allowed table es need channel b scaling tuned;
-      playable = λ o allowed table es need channel b tracks playable. file_playable laws facts c.outputs_apart.ensures.bend o allowed table es need channel b tracks playable;
-      left = λ o allowed table es need channel b z instant row plan k i low small free. port_left laws facts o allowed table es need channel b z instant row plan k i low small free;
-      on_row = λ o allowed table es need channel b z. file_used laws facts c.outputs_apart.ensures.bend o allowed table es need channel b z;
+      out = port_blocks facts;
+      left = port_left laws facts;
+      same = same_file music facts c.outputs_apart.ensures.bend;
+      playable = file_playable laws facts c.outputs_apart.ensures.bend;
+      on_row = file_used laws facts c.outputs_apart.ensures.bend;
     }
