@@ -4,12 +4,13 @@ use Rattle.std.specs.List.{AllByRecursion}
 use Rattle.mt_base.specs.Midi.{MidiEvent}
 use Rattle.mt_base.specs.Valid.{IsValidEvent}
 use Rattle.midi_model.specs.WellFormed.{IsWellFormed}
-use Rattle.midi_model.specs.Merged.{IsPlayable}
+use Rattle.midi_model.specs.Merged.{IsPlayable, merged}
+use Rattle.midi_model.specs.FileText.{MidiFile}
 use Rattle.midi_model.specs.Music.{quiet, channel_at, play, Music, state_at}
 use Rattle.retune_model.specs.Table.{Scaling}
 use Rattle.retune_model.specs.Options.{Options}
 use Rattle.retune_model.specs.Ports.{of_port, port_at, events_on, all_zero}
-use Rattle.retune_model.specs.PlaysTheSame.{plain_device, PlayTheSame, PlaysTheSameMusic, KeepsDrums}
+use Rattle.retune_model.specs.PlaysTheSame.{plain_device, PlayTheSame, PlaysTheSameMusic, KeepsDrums, HasSameShape, PlaysTheSame}
 use Rattle.retune_model.specs.Faults.{Targets}
 use Rattle.retune_model.specs.Pairs.{Pair, is_same_pair}
 use Rattle.retune_model.specs.Runs.{since}
@@ -94,6 +95,15 @@ same_file m f ports o allowed table es need channel b scaling tuned =
           (keeps_all_drums IsWellFormed m.laws o table (uses o allowed (need z)) p.used (runs_on o table es channel z) (of_port z es)
           (length es) p.planned p.timely));
     }
+
+pub whole_file : MusicLaws → PortFacts → BentPorts → (o : Options) (allowed : ℕ → Bool) (table : Targets) (need : ℕ → ℕ)
+    (channel : ℕ → ℕ → Pair → ℕ) (source out : MidiFile) → HasSameShape source out → merged out ≡ bend_output o table channel (merged source) →
+    IsBent o allowed table (merged source) need channel → (scaling : Scaling) → IsTuned scaling o table → PlaysTheSame scaling o table source out
+whole_file m f ports o allowed table need channel source out shape is b scaling tuned = record {
+  shape = shape;
+  events = subst (PlayTheSame scaling o table (plain_device o) (merged source)) (sym is)
+      (same_file m f ports o allowed table (merged source) need channel b scaling tuned);
+}
 
 pub file_playable : Laws IsWellFormed → PortFacts → BentPorts → (o : Options) (allowed : ℕ → Bool) (table : Targets) (es : List MidiEvent)
     (need : ℕ → ℕ) (channel : ℕ → ℕ → Pair → ℕ) → IsBent o allowed table es need channel →

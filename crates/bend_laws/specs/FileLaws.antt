@@ -2,12 +2,13 @@
 use Rattle.std.specs.Prelude.{◌≡◌, ◌≤◌, ◌<◌, ℕ, Bool, List, length, get_or}
 use Rattle.std.specs.List.{AllByRecursion}
 use Rattle.mt_base.specs.Midi.{MidiEvent}
-use Rattle.midi_model.specs.Merged.{IsPlayable}
+use Rattle.midi_model.specs.Merged.{IsPlayable, merged}
+use Rattle.midi_model.specs.FileText.{MidiFile}
 use Rattle.midi_model.specs.Music.{quiet, play, state_at}
 use Rattle.retune_model.specs.Table.{Scaling}
 use Rattle.retune_model.specs.Options.{Options}
 use Rattle.retune_model.specs.Ports.{of_port, port_at, events_on, music_at}
-use Rattle.retune_model.specs.PlaysTheSame.{plain_device, PlayTheSame}
+use Rattle.retune_model.specs.PlaysTheSame.{plain_device, PlayTheSame, HasSameShape, PlaysTheSame}
 use Rattle.retune_model.specs.Faults.{Targets}
 use Rattle.retune_model.specs.Pairs.{Pair}
 use Rattle.channel_model.specs.Choice.{from_state}
@@ -43,6 +44,12 @@ PortsAreTheirBlocks = OfBent (λ o allowed table es need channel. (z k : ℕ) �
 abbrev pub BentPlaysTheSame : Type 0
 BentPlaysTheSame = OfBent (λ o allowed table es need channel. (scaling : Scaling) → IsTuned scaling o table →
     PlayTheSame scaling o table (plain_device o) es (bend_output o table channel es))
+
+-- and so does a file of it
+abbrev pub BentFilePlaysTheSame : Type 0
+BentFilePlaysTheSame = (o : Options) (allowed : ℕ → Bool) (table : Targets) (need : ℕ → ℕ) (channel : ℕ → ℕ → Pair → ℕ) (source out : MidiFile) →
+    HasSameShape source out → merged out ≡ bend_output o table channel (merged source) → IsBent o allowed table (merged source) need channel →
+    (scaling : Scaling) → IsTuned scaling o table → PlaysTheSame scaling o table source out
 
 -- and can be written as a file with the source's tracks
 abbrev pub BentIsPlayable : Type 0

@@ -1,6 +1,6 @@
 //! What the bend route writes for a file.
 
-ghost use Rattle.bend_laws.specs.FileLaws.{PortsPlay, PortsAreTheirEvents, PortsAreTheirBlocks, BentPlaysTheSame, BentIsPlayable, BentIsOnTheRow, PortsAreLeft};
+ghost use Rattle.bend_laws.specs.FileLaws.{PortsPlay, PortsAreTheirEvents, PortsAreTheirBlocks, BentPlaysTheSame, BentFilePlaysTheSame, BentIsPlayable, BentIsOnTheRow, PortsAreLeft};
 
 use channel_model::{best_is_free, outputs_apart};
 use midi_model::{music_laws, parameter_laws, receiver_laws};
@@ -11,18 +11,19 @@ use retune_model::{
 };
 use state_laws::{a_receiver_follows, bring_reaches, messages_only_set, states_stay_well_formed};
 
-/// For a source without a fault and a plan of each of its ports, for any tail: at every position of the file each port plays the notes
-/// that the source plays, one by one, on the channels of the plan; the channel of each pair that is there is at what the pair needs;
-/// and each other channel of the used row is silent and as it was left. So the whole plays the same: on every port and at every tick
-/// the same notes, each within half a step of a bend and a thousandth of a cent of its source pitch, and right from its beginning; all
-/// other events and kept drums are passed on. And it can be written as a file with the source's tracks,
-/// and speaks to no part but on the channels of the used row.
+/// For a source without a fault and a plan of each of its ports, for any tail: at every position of the file each port plays the
+/// notes that the source plays, one by one, on the channels of the plan; the channel of each pair that is there is at what the pair
+/// needs; each other channel of the used row is silent, and one that no run holds is in the state from which the next is brought. So
+/// the whole plays the same: on every port and at every tick the same notes, each within half a step of a bend and a thousandth of a
+/// cent of its source pitch, and right from its beginning; all other events and kept drums are passed on. It can be written as a file
+/// with the source's tracks, and speaks to no part but on the channels of the used row.
 pub fn bend_plays_the_same()
     ensures ports { PortsPlay }
     ensures source { PortsAreTheirEvents }
     ensures out { PortsAreTheirBlocks }
     ensures left { PortsAreLeft }
     ensures same { BentPlaysTheSame }
+    ensures file { BentFilePlaysTheSame }
     ensures playable { BentIsPlayable }
     ensures on_row { BentIsOnTheRow }
 {

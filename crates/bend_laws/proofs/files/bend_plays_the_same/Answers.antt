@@ -6,7 +6,7 @@ use Rattle.bend_laws.proofs.Outputs.{source_is_played}
 use Rattle.bend_laws.proofs.Musical.{MusicLaws}
 use Rattle.bend_laws.proofs.Ported.{PortFacts, HeldStandOnce, stand_once, timely_port}
 use Rattle.retune_model.specs.Rests.{held_at}
-use Rattle.bend_laws.proofs.Filed.{port_plays, port_blocks, same_file, file_playable, file_used, port_left}
+use Rattle.bend_laws.proofs.Filed.{port_plays, port_blocks, same_file, file_playable, file_used, port_left, whole_file}
 use Rattle.channel_model.specs.BendOutput.{runs_on}
 use Rattle.retune_model.specs.Ports.{of_port}
 use Rattle.bend_laws.proofs.files.bend_plays_the_same.Goals as goal
@@ -65,6 +65,7 @@ returns c =
       out = port_blocks facts;
       left = port_left laws facts;
       same = same_file music facts c.outputs_apart.ensures.bend;
+      file = whole_file music facts c.outputs_apart.ensures.bend;
       playable = file_playable laws facts c.outputs_apart.ensures.bend;
       on_row = file_used laws facts c.outputs_apart.ensures.bend;
     }
