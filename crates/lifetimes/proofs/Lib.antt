@@ -73,3 +73,4 @@ pub mod StruckPairs
 pub mod StruckDue
 pub mod Unturned
 pub mod KindsInTurn
+pub mod NotedParts

@@ -12,3 +12,4 @@ pub mod Due
 pub mod Pressing
 pub mod Entry
 pub mod Causes
+pub mod Noted

@@ -8,6 +8,7 @@ mod change;
 mod ending;
 mod entry;
 mod fault;
+mod noted;
 mod notes;
 mod options;
 mod parts;
@@ -23,5 +24,6 @@ mod wanted;
 
 pub use change::{Begun, Change};
 pub use fault::{SourceFault, SourceKind, StepFault};
+pub use noted::Noted;
 pub use options::{Options, Route};
 pub use parts::Parts;
