@@ -28,7 +28,7 @@ of_port_append z ports a (x ∷ es) fs =
     let n : suc a + length es ≡ a + suc (length es) = omega arith in
     let back : ℕ → List Numbered = λ k. of_port_from z (ports_from (ports_after ports x) es) k fs in
     ap (with_event (nat_eq (port_of ports x) z) (record { position = suc a; event = x }))
-        (of_port_append z (ports_after ports x) (suc a) es fs ∙ ap (λ k. of_port_from z (ports_after ports x) (suc a) es ++ back k) n)
+    (of_port_append z (ports_after ports x) (suc a) es fs ∙ ap (λ k. of_port_from z (ports_after ports x) (suc a) es ++ back k) n)
     ∙ with_append (nat_eq (port_of ports x) z) (record { position = suc a; event = x }) _ _
 
 pub events_front : (front back : List MidiEvent) (z : ℕ) → of_port z (front ++ back)
@@ -41,7 +41,7 @@ pub event_front_from : (z : ℕ) (ports : ℕ → ℕ) (a k : ℕ) (es fs : List
     → event_at (of_port_from z ports a (es ++ fs)) k ≡ event_at (of_port_from z ports a es) k
 event_front_from z ports a k [] fs le = none_at a k (of_port_from z ports a fs) (ascend_from z ports a fs) (omega (arith, le))
 event_front_from z ports a k (x ∷ es) fs le =
-  pick (nat_eq (port_of ports x) z) (event_front_from z (ports_after ports x) (suc a) k es fs (omega (arith, le)))
+    pick (nat_eq (port_of ports x) z) (event_front_from z (ports_after ports x) (suc a) k es fs (omega (arith, le)))
   where
     n : Numbered
     n = record { position = suc a; event = x }
@@ -74,7 +74,7 @@ pub music_front : (front back : List MidiEvent) (z k : ℕ) → k ≤ length fro
 music_front front back z k le =
     ap (play quiet) (among_first z all_zero 0 k k (front ++ back) (omega arith)
     ∙ (ap (λ es. unnumbered (of_port_from z all_zero 0 es)) (take-append-le k front back le)
-        ∙ sym (among_first z all_zero 0 k k front (omega arith))))
+    ∙ sym (among_first z all_zero 0 k k front (omega arith))))
 
 -- the events of a port with the next of the file
 map_append : (xs ys : List Numbered) → unnumbered (xs ++ ys) ≡ unnumbered xs ++ unnumbered ys
@@ -247,6 +247,6 @@ pub next_is_first : (o : Options) (table : Targets) (front : List MidiEvent) (e 
 next_is_first o table front e back f all here =
     let n = length-append front (e ∷ []) in
     let first : IsFirst o table (front ++ e ∷ []) (length front) f =
-        record { there = omega (arith, n); here = here; none_before = λ j l. fault_front o table front (e ∷ []) j l ∙ all j l } in
+    record { there = omega (arith, n); here = here; none_before = λ j l. fault_front o table front (e ∷ []) j l ∙ all j l } in
     subst (λ es. IsFirst o table es (length front) f) (append_assoc front (e ∷ []) back)
-        (is_first_front o table (front ++ e ∷ []) back (length front) f first)
+    (is_first_front o table (front ++ e ∷ []) back (length front) f first)

@@ -39,11 +39,11 @@ same_first p q ps qs a b h k = elim (or_cases (is_same_pair p q) (is_member is_s
 
 same_rest : (p q : Pair) (ps qs : List Pair) → p ≡ q → AreOrdered (p ∷ ps) → HasEachOf (q ∷ qs) (p ∷ ps) → HasEachOf qs ps
 same_rest p q ps qs same a f x h =
-  let there : Has (q ∷ qs) x = f x (or_right (is_same_pair x p) (is_member is_same_pair ps x) h) in
-  elim (or_cases (is_same_pair x q) (is_member is_same_pair qs x) there) [
-  | inl e ↦ absurd (not_before p x (same ∙ sym (same_pair x q e)) (member (λ y. is_before p y ≡ true) ps x a.0 h))
-  | inr e ↦ e
-]
+    let there : Has (q ∷ qs) x = f x (or_right (is_same_pair x p) (is_member is_same_pair ps x) h) in
+    elim (or_cases (is_same_pair x q) (is_member is_same_pair qs x) there) [
+      | inl e ↦ absurd (not_before p x (same ∙ sym (same_pair x q e)) (member (λ y. is_before p y ≡ true) ps x a.0 h))
+      | inr e ↦ e
+    ]
 
 pub same_list : (ps qs : List Pair) → AreOrdered ps → AreOrdered qs → HasEachOf qs ps → HasEachOf ps qs → ps ≡ qs
 same_list [] [] a b f g = refl

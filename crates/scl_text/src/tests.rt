@@ -97,10 +97,7 @@ const CASES: [(&[u8], Wanted<'_>); 40] = [
     (b"test\n1\n-0/9223372036854775808", Wanted::At(3, 6)),
     // any bytes in the description, which may be empty; blanks; further lines
     (b"\xff\xfe\n1\n2/1\n", Wanted::Ratio(2, 1)),
-    (
-        b"\n\t 1 note\n \t2/1\nmore\n",
-        Wanted::Ratio(2, 1),
-    ),
+    (b"\n\t 1 note\n \t2/1\nmore\n", Wanted::Ratio(2, 1)),
     (b"test\n1\n2\n", Wanted::Ratio(2, 1)),
     (b"test\n01\n0002/01\n", Wanted::Ratio(2, 1)),
     (b"test\n! x\n1\n!\n1\n", Wanted::Ratio(1, 1)),
@@ -124,10 +121,7 @@ const CASES: [(&[u8], Wanted<'_>); 40] = [
     (b"test\n1\n-1000001.", Wanted::At(3, 8)),
     // decimals: the first nine count
     (b"test\n1\n.0000000019", Wanted::Cents(1)),
-    (
-        b"test\n1\n701.955",
-        Wanted::Cents(701_955_000_000),
-    ),
+    (b"test\n1\n701.955", Wanted::Cents(701_955_000_000)),
     (b"test\n1\n-.5.5", Wanted::Cents(-500_000_000)),
 ];
 
