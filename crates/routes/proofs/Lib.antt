@@ -1,0 +1,12 @@
+mod Puts
+mod Dealt
+mod Distributes
+mod Premises
+mod Bytes
+mod Sizes
+mod Same
+mod Blocks
+mod Lives
+mod States
+mod Channels
+mod Passing

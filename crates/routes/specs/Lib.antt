@@ -1,0 +1,5 @@
+pub mod Putting
+pub mod Routed
+pub mod Device
+pub mod Kept
+pub mod Laws
