@@ -18,7 +18,8 @@ range_more a (suc n) b e =
     let more : suc n + 1 ≡ suc (n + 1) = omega arith in
     ap (range_with_len a) more ∙ ap (λ xs. a ∷ xs) (range_more (a + 1) n b (omega (arith, e)))
 
-one_more : (table : ℕ → Option Bounds) (used : ℕ → Bool) (k : ℕ) → errors_below table used (k + 1) ≡ errors_below table used k ++ cons_option (used_error table used k) []
+one_more : (table : ℕ → Option Bounds) (used : ℕ → Bool) (k : ℕ)
+    → errors_below table used (k + 1) ≡ errors_below table used k ++ cons_option (used_error table used k) []
 unfolding errors_below
 one_more table used k =
     ap (filter_map (used_error table used)) (range_more 0 k k (omega arith))
@@ -30,7 +31,8 @@ none_below table used = refl
 
 -- what is put for the next key
 pub lines_more : (table : ℕ → Option Bounds) (used : ℕ → Bool) (k : ℕ) (e : Option KeyError) (before out new : List ℕ) → e ≡ used_error table used k
-    → out ≡ before ++ key_lines (errors_below table used k) → new ≡ out ++ key_lines (cons_option e []) → new ≡ before ++ key_lines (errors_below table used (k + 1))
+    → out ≡ before ++ key_lines (errors_below table used k) → new ≡ out ++ key_lines (cons_option e [])
+    → new ≡ before ++ key_lines (errors_below table used (k + 1))
 lines_more table used k e before out new is was put =
     put ∙ ap (λ o. o ++ key_lines (cons_option e [])) was
     ∙ append_assoc before (key_lines (errors_below table used k)) (key_lines (cons_option e []))
@@ -39,8 +41,10 @@ lines_more table used k e before out new is was put =
     ∙ sym (flat_map-append key_line (errors_below table used k) (cons_option (used_error table used k) []))
     ∙ ap key_lines (sym (one_more table used k)))
 
-pub whole_more : (table : ℕ → Option Bounds) (used : ℕ → Bool) (k : ℕ) (e : Option KeyError) (whole new : Option ErrorRange) → e ≡ used_error table used k
-    → whole ≡ whole_error (errors_below table used k) → new ≡ fold with_error whole (cons_option e []) → new ≡ whole_error (errors_below table used (k + 1))
+pub whole_more : (table : ℕ → Option Bounds) (used : ℕ → Bool) (k : ℕ) (e : Option KeyError) (whole new : Option ErrorRange)
+    → e ≡ used_error table used k
+    → whole ≡ whole_error (errors_below table used k) → new ≡ fold with_error whole (cons_option e [])
+    → new ≡ whole_error (errors_below table used (k + 1))
 whole_more table used k e whole new is was joined =
     joined ∙ ap (λ w. fold with_error w (cons_option e [])) was
     ∙ ap (λ x. fold with_error (whole_error (errors_below table used k)) (cons_option x [])) is
@@ -58,11 +62,13 @@ same_from table f g a (suc n) same =
     ∙ ap (cons_option (used_error table g a)) rest
 
 -- what holds of the error of each used key
-all_of_option : (P : KeyError → Type 0) (o : Option KeyError) (es : List KeyError) → ((e : KeyError) → o ≡ Some e → P e) → All P es → All P (cons_option o es)
+all_of_option : (P : KeyError → Type 0) (o : Option KeyError) (es : List KeyError) → ((e : KeyError) → o ≡ Some e → P e) → All P es
+    → All P (cons_option o es)
 all_of_option P None es each rest = rest
 all_of_option P (Some e) es each rest = All-cons P e es (each e refl) rest
 
-pub all_from : (P : KeyError → Type 0) (h : ℕ → Option KeyError) (a n : ℕ) → ((k : ℕ) (e : KeyError) → k < a + n → h k ≡ Some e → P e) → All P (filter_map h (range_with_len a n))
+pub all_from : (P : KeyError → Type 0) (h : ℕ → Option KeyError) (a n : ℕ) → ((k : ℕ) (e : KeyError) → k < a + n → h k ≡ Some e → P e)
+    → All P (filter_map h (range_with_len a n))
 all_from P h a zero each = All-nil P
 all_from P h a (suc n) each =
     all_of_option P (h a) (filter_map h (range_with_len (a + 1) n)) (λ e is. each a e (omega arith) is)
@@ -70,15 +76,20 @@ all_from P h a (suc n) each =
 
 here_in : (o : Option KeyError) (es : List KeyError) (e : KeyError) → o ≡ Some e → Contains (map (λ x. x.key) (cons_option o es)) e.key
 here_in None es e is = absurd cc
-here_in (Some x) es e is = let same : x ≡ e = cc in rw (← same) (Contains-append_left (x.key ∷ []) (map (λ x. x.key) es) x.key (Contains-push [] x.key))
+here_in (Some x) es e is =
+    let same : x ≡ e = cc in
+    rw (← same) (Contains-append_left (x.key ∷ []) (map (λ x. x.key) es) x.key (Contains-push [] x.key))
 
-there_in : (o : Option KeyError) (es : List KeyError) (key : ℕ) → Contains (map (λ x. x.key) es) key → Contains (map (λ x. x.key) (cons_option o es)) key
+there_in : (o : Option KeyError) (es : List KeyError) (key : ℕ) → Contains (map (λ x. x.key) es) key
+    → Contains (map (λ x. x.key) (cons_option o es)) key
 there_in None es key rest = rest
 there_in (Some x) es key rest = Contains-append_right (x.key ∷ []) (map (λ x. x.key) es) key rest
 
-pub found_from : (h : ℕ → Option KeyError) (a n k : ℕ) (e : KeyError) → a ≤ k → k < a + n → h k ≡ Some e → Contains (map (λ x. x.key) (filter_map h (range_with_len a n))) e.key
+pub found_from : (h : ℕ → Option KeyError) (a n k : ℕ) (e : KeyError) → a ≤ k → k < a + n → h k ≡ Some e
+    → Contains (map (λ x. x.key) (filter_map h (range_with_len a n))) e.key
 found_from h a zero k e low high is = absurd (omega (arith, low, high))
 found_from h a (suc n) k e low high is = elim (cases_eq k a) [
   | inl same ↦ here_in (h a) (filter_map h (range_with_len (a + 1) n)) e (ap h (sym same) ∙ is)
-  | inr other ↦ there_in (h a) (filter_map h (range_with_len (a + 1) n)) e.key (found_from h (a + 1) n k e (omega (arith, low, other)) (omega (arith, high)) is)
+  | inr other ↦ there_in (h a) (filter_map h (range_with_len (a + 1) n)) e.key
+      (found_from h (a + 1) n k e (omega (arith, low, other)) (omega (arith, high)) is)
 ]

@@ -20,8 +20,10 @@ down_grows a b h = let x = rounds_down a in let y = rounds_down b in omega (arit
 
 pub errors_hold : LeastOfDifference → MostOfDifference → LeastOfExact → MostOfExact → LeastOfLess → MostOfMore → ErrorsHold
 errors_hold least most least_exact most_exact less more = λ p lo hi target at_least at_most. (
-  less (subtracted (exactly target) p) (target -ℤ hi) (grains_of (least_error target hi)) (rounds_down (target -ℤ hi)).0 (least (exactly target) p target hi (least_exact target) at_most),
-  more (subtracted (exactly target) p) (target -ℤ lo) (grains_of (greatest_error target lo)) (rounds_up (target -ℤ lo)).0 (most (exactly target) p target lo (most_exact target) at_least),
+  less (subtracted (exactly target) p) (target -ℤ hi) (grains_of (least_error target hi)) (rounds_down (target -ℤ hi)).0
+      (least (exactly target) p target hi (least_exact target) at_most),
+  more (subtracted (exactly target) p) (target -ℤ lo) (grains_of (greatest_error target lo)) (rounds_up (target -ℤ lo)).0
+      (most (exactly target) p target lo (most_exact target) at_least),
 )
 
 pub errors_are_near : ErrorsAreNear

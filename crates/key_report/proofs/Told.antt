@@ -21,12 +21,15 @@ pub record IsErrorOf (table : ℕ → Option Bounds) (used : ℕ → Bool) (key 
   pub target : tuning_target bounds ≡ Some value
   pub is : e ≡ error_of key bounds value
 
-of_target : (table : ℕ → Option Bounds) (used : ℕ → Bool) (key : ℕ) (b : Bounds) (t : Option ℕ) (e : KeyError) → used key ≡ true → table key ≡ Some b → tuning_target b ≡ t
+of_target : (table : ℕ → Option Bounds) (used : ℕ → Bool) (key : ℕ) (b : Bounds) (t : Option ℕ) (e : KeyError) → used key ≡ true
+    → table key ≡ Some b → tuning_target b ≡ t
     → option_map (error_of key b) t ≡ Some e → IsErrorOf table used key e
 of_target table used key b None e in_use told target some = absurd cc
-of_target table used key b (Some v) e in_use told target some = record { bounds = b; value = v; in_use = in_use; told = told; target = target; is = sym (search some) }
+of_target table used key b (Some v) e in_use told target some =
+    record { bounds = b; value = v; in_use = in_use; told = told; target = target; is = sym (search some) }
 
-of_bounds : (table : ℕ → Option Bounds) (used : ℕ → Bool) (key : ℕ) (o : Option Bounds) (e : KeyError) → used key ≡ true → table key ≡ o → error_if key o ≡ Some e → IsErrorOf table used key e
+of_bounds : (table : ℕ → Option Bounds) (used : ℕ → Bool) (key : ℕ) (o : Option Bounds) (e : KeyError) → used key ≡ true → table key ≡ o
+    → error_if key o ≡ Some e → IsErrorOf table used key e
 of_bounds table used key None e in_use told some = absurd cc
 of_bounds table used key (Some b) e in_use told some = of_target table used key b (tuning_target b) e in_use told refl some
 
@@ -38,7 +41,8 @@ of_used table used key e some = pick (used key) refl some
     pick false in_use h = absurd cc
 
 -- by the bounds of a key, its target and its pitch
-of_pitch : ErrorsHold → ErrorsAreNear → (s : Scaling) (onset key : ℕ) (b : Bounds) (v : ℕ) (o : Option Pitch) (terms : ℕ) (ratios : List (ℕ × ℕ)) → tuning_target b ≡ Some v
+of_pitch : ErrorsHold → ErrorsAreNear → (s : Scaling) (onset key : ℕ) (b : Bounds) (v : ℕ) (o : Option Pitch) (terms : ℕ) (ratios : List (ℕ × ℕ))
+    → tuning_target b ≡ Some v
     → pitch_at s key onset ≡ o → Bound terms ratios o (Some b) → terms ≤ 1700 → HasError s onset (error_of key b v)
 of_pitch hold near s onset key b v None terms ratios target of_key a few = absurd a
 of_pitch hold near s onset key b v (Some p) terms ratios target of_key a few =
@@ -56,7 +60,8 @@ errors_of_keys hold near s table onset used is_table few =
     all_from (HasError s onset) (used_error (λ key. table key onset) used) 0 128 (λ key e low some.
     let of = of_used (λ key. table key onset) used key e some in
     let bound = rw of.told at (is_table.bounds key onset (omega (arith, low))) in
-    rw of.is (of_pitch hold near s onset key of.bounds of.value (pitch_at s key onset) (terms_at s key onset) (ratios_at_key s key onset) of.target refl bound (few key onset (omega (arith, low)))))
+    rw of.is (of_pitch hold near s onset key of.bounds of.value (pitch_at s key onset) (terms_at s key onset) (ratios_at_key s key onset) of.target
+    refl bound (few key onset (omega (arith, low)))))
 
 pub used_are_told : UsedKeysAreTold
 unfolding errors_below
@@ -64,7 +69,8 @@ used_are_told table used = all_from (IsTold table used) (used_error table used) 
     let of = of_used table used key e some in
     rw of.is (low, of.in_use, ap tuning_if of.told ∙ of.target))
 
-told_error : (table : ℕ → Option Bounds) (used : ℕ → Bool) (key value : ℕ) (o : Option Bounds) → used key ≡ true → table key ≡ o → tuning_if o ≡ Some value
+told_error : (table : ℕ → Option Bounds) (used : ℕ → Bool) (key value : ℕ) (o : Option Bounds) → used key ≡ true → table key ≡ o
+    → tuning_if o ≡ Some value
     → (b : Bounds) × (used_error table used key ≡ Some (error_of key b value))
 told_error table used key value None in_use told target = absurd cc
 told_error table used key value (Some b) in_use told target =

@@ -9,15 +9,13 @@ use Rattle.key_report.specs.declared.range.ErrorRange.{ErrorRange}
 use Rattle.key_report.specs.Keys.{with_error}
 use Rattle.key_report.specs.KeyLaws.{IsWhole, WholeIsLeastToGreatest}
 
-leasts : List KeyError → List ℤ
-leasts es = map (λ e. e.error.least) es
-
-greatests : List KeyError → List ℤ
-greatests es = map (λ e. e.error.greatest) es
-
 -- end by end
 folded : (w : ErrorRange) (es : List KeyError)
-    → fold with_error (Some w) es ≡ Some (record { least = fold int_min w.least (map (λ e. e.error.least) es); greatest = fold int_max w.greatest (map (λ e. e.error.greatest) es) })
+    → fold with_error (Some w) es
+    ≡ Some (record {
+      least = fold int_min w.least (map (λ e. e.error.least) es);
+      greatest = fold int_max w.greatest (map (λ e. e.error.greatest) es);
+    })
 folded w [] = refl
 folded w (e ∷ es) = folded (record { least = int_min w.least e.error.least; greatest = int_max w.greatest e.error.greatest }) es
 
@@ -33,10 +31,15 @@ whole e es least greatest down up =
     record {
       least = All-cons (λ n. least ≤ℤ n) e.error.least (map (λ e. e.error.least) es) low.0 low.1;
       greatest = All-cons (λ n. n ≤ℤ greatest) e.error.greatest (map (λ e. e.error.greatest) es) high.0 high.1;
-      some_least = reached e.error.least (map (λ e. e.error.least) es) least (fold-int_min_reached e.error.least (map (λ e. e.error.least) es) least down);
-      some_greatest = reached e.error.greatest (map (λ e. e.error.greatest) es) greatest (fold-int_max_reached e.error.greatest (map (λ e. e.error.greatest) es) greatest up);
+      some_least = reached e.error.least (map (λ e. e.error.least) es) least
+          (fold-int_min_reached e.error.least (map (λ e. e.error.least) es) least down);
+      some_greatest = reached e.error.greatest (map (λ e. e.error.greatest) es) greatest
+          (fold-int_max_reached e.error.greatest (map (λ e. e.error.greatest) es) greatest up);
     }
 
 pub least_to_greatest : WholeIsLeastToGreatest
 least_to_greatest [] = refl
-least_to_greatest (e ∷ es) = rw (folded e.error es) (whole e es (fold int_min e.error.least (map (λ e. e.error.least) es)) (fold int_max e.error.greatest (map (λ e. e.error.greatest) es)) refl refl)
+least_to_greatest (e ∷ es) =
+    rw (folded e.error es) (whole e es
+    (fold int_min e.error.least (map (λ e. e.error.least) es))
+    (fold int_max e.error.greatest (map (λ e. e.error.greatest) es)) refl refl)

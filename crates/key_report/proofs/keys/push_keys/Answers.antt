@@ -15,7 +15,8 @@ loop-key-init c =
 
 pub loop-key-preserved : goal.loop-key-preserved
 loop-key-preserved c = record {
-  text = lines_more (table_of c.args.table.now) (is_used c.args.keys) c.loop-key.key c.used_error-error.result c.args.out.now.items c.loop-key.out.items c.push_if.new.out.items
+  text = lines_more (table_of c.args.table.now) (is_used c.args.keys) c.loop-key.key c.used_error-error.result c.args.out.now.items
+      c.loop-key.out.items c.push_if.new.out.items
       c.used_error-error.ensures.error c.loop-key.invariant.text c.in_ok-whole.ensures.text;
   whole = whole_more (table_of c.args.table.now) (is_used c.args.keys) c.loop-key.key c.used_error-error.result c.loop-key.whole c.in_ok-whole.whole
       c.used_error-error.ensures.error c.loop-key.invariant.whole c.in_ok-whole.ensures.whole;

@@ -19,8 +19,11 @@ returns c =
     let e = c.requires.near_high in
     let f = c.requires.order in
     let g = c.requires.narrow in
-    let from_hi : to_z w128 (of_z w128 (to_z w128 (of_z w128 target) -ℤ to_z w128 (of_z w128 hi))) ≡ target -ℤ hi = omega (arith, ints, a, b, d, e, f, g) in
+    let from_hi : to_z w128 (of_z w128 (to_z w128 (of_z w128 target) -ℤ to_z w128 (of_z w128 hi))) ≡ target -ℤ hi =
+    omega (arith, ints, a, b, d, e, f, g) in
     let from_lo : to_z w128 (of_z w128 (to_z w128 (of_z w128 target) -ℤ to_z w128 (of_z w128 lo))) ≡ target -ℤ lo = omega (arith, ints, a, b, d, e) in
-    let least : to_z w32 (of_z w32 c.down.result) ≡ least_error target hi = to_z-of_z w32 c.down.result (search rules) ∙ c.down.ensures ∙ ap rounded_down from_hi in
-    let greatest : to_z w32 (of_z w32 c.up.result) ≡ greatest_error target lo = to_z-of_z w32 c.up.result (search rules) ∙ c.up.ensures ∙ ap rounded_up from_lo in
+    let least : to_z w32 (of_z w32 c.down.result) ≡ least_error target hi = to_z-of_z w32 c.down.result (search rules) ∙ c.down.ensures
+    ∙ ap rounded_down from_hi in
+    let greatest : to_z w32 (of_z w32 c.up.result) ≡ greatest_error target lo = to_z-of_z w32 c.up.result (search rules) ∙ c.up.ensures
+    ∙ ap rounded_up from_lo in
     both (to_z w32 (of_z w32 c.down.result)) (to_z w32 (of_z w32 c.up.result)) (least_error target hi) (greatest_error target lo) least greatest
