@@ -1,0 +1,16 @@
+//! Which channel each note of a source is given: as few channels on a port as there are ever pairs of a part
+//! and a bend at once, or why a source needs more than there may be.
+#![tactic(auto)]
+
+mod choice;
+mod counter;
+mod fault;
+mod layout;
+mod lent;
+mod plan;
+mod refusing;
+mod rows;
+
+pub use fault::{Instant, PlanFault, TooMany};
+pub use layout::Layout;
+pub use plan::{Plan, Zone};
