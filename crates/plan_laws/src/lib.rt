@@ -1,0 +1,7 @@
+//! Laws of the places of a row of channels, which is what a plan is made by: position by position, over any
+//! sequence of sets of pairs in which at most one pair's run begins at each position.
+#![tactic(auto)]
+
+mod places;
+
+pub use places::placing_laws;
