@@ -6,3 +6,4 @@ pub mod Choosing
 pub mod Masks
 pub mod Layouts
 pub mod Passing
+pub mod Seeing

@@ -16,6 +16,8 @@ pub(crate) struct Place {
     pub left: ChannelState,
     /// The first position from which on no run is on it, where none is.
     pub since: u32,
+    /// The number of the run that was on it last.
+    pub run: u32,
 }
 
 /// A free place, by its number, with the messages that its setup takes.

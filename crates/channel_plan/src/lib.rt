@@ -6,7 +6,7 @@ mod choice;
 mod counter;
 mod fault;
 mod layout;
-mod lent;
+mod places;
 mod plan;
 mod refusing;
 mod rows;

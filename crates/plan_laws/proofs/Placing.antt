@@ -17,7 +17,7 @@ use Rattle.plan_laws.specs.PlacingLaws.{AllAreNowhere, TellsLeaving, IsLeftAlone
 some_same : (p q : Pair) → Some p ≡ Some q → p ≡ q
 some_same p q e = cc
 
-on_found : PairsAreTold → (place : Pair → ℕ) (c : ℕ) (ps : List Pair) (p : Pair) → on_place place c ps ≡ Some p → Has ps p × (place p ≡ c)
+pub on_found : PairsAreTold → (place : Pair → ℕ) (c : ℕ) (ps : List Pair) (p : Pair) → on_place place c ps ≡ Some p → Has ps p × (place p ≡ c)
 on_found told place c [] p h = absurd cc
 on_found told place c (q ∷ qs) p h = pick (λ g. on_found told place c qs p g) (nat_eq (place q) c) refl h
   where

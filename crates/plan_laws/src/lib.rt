@@ -4,4 +4,4 @@
 
 mod places;
 
-pub use places::placing_laws;
+pub use places::{leaving_laws, placing_laws};

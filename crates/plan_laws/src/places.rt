@@ -2,7 +2,9 @@
 
 ghost use Rattle.plan_laws.specs.PlacingLaws.{NoneAtFirst, LeavingFrees, ClearingFrees, NoneBegins, OneBeginsOn, BestIsTaken, NoneIsTaken, OneIsFree};
 
-use retune_model::pair_laws;
+ghost use Rattle.plan_laws.specs.FromLaws.{BendIsLeftAlone, BendIsCleared, BendLeaves, RestsBeforeItLeaves, HeldHolds, MemberIsLeftAlone, MemberIsCleared, MemberLeaves, MemberCosts};
+
+use retune_model::{elsewhere, last_ends, pair_laws, rests_are_runs, rests_as_written, without_rests};
 
 /// What the places of a row hold is kept by each event: those whose pairs it ends are freed, a reset frees all, and a
 /// run that begins goes on the best of the free ones, of which there is one.
@@ -17,4 +19,26 @@ pub fn placing_laws()
     ensures room { OneIsFree }
 {
     pair_laws();
+}
+
+/// The states in which pairs leave their channels. On bend a channel stays as its last run left it: as that run's pair
+/// needed it after the event that ended it, or, where it rested, before that event; a pair that sounds doesn't leave where
+/// notes rest. On MPE a member keeps its last pair's bend. A reset brings all to the defaults.
+pub fn leaving_laws()
+    ensures alone { BendIsLeftAlone }
+    ensures cleared { BendIsCleared }
+    ensures leaves { BendLeaves }
+    ensures rests { RestsBeforeItLeaves }
+    ensures held { HeldHolds }
+    ensures member_alone { MemberIsLeftAlone }
+    ensures member_cleared { MemberIsCleared }
+    ensures member_leaves { MemberLeaves }
+    ensures member_costs { MemberCosts }
+{
+    pair_laws();
+    rests_as_written();
+    rests_are_runs();
+    last_ends();
+    elsewhere();
+    without_rests();
 }
