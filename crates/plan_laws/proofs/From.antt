@@ -1,7 +1,7 @@
 -- The states from which runs are brought.
-use Rattle.std.proofs.Common.{◌≡◌, ◌≢◌, ◌≤◌, ◌<◌, ◌+◌, ◌-◌, ◌⊎◌, ℕ, zero, suc, pos, ◌+ℤ◌, List, [], ◌∷◌, Bool, true, false, cond, ◌&&◌, ◌||◌, not, Option, Some, None, length, drop, get_or, max, refl, sym, ap, ◌∙◌, subst, nat_eq, nat_lt, nat_le, arith, inl, inr}
+use Rattle.std.proofs.Common.{◌≡◌, ◌≤◌, ◌<◌, ◌+◌, ◌⊎◌, ℕ, zero, suc, pos, ◌+ℤ◌, List, [], ◌∷◌, Bool, true, false, cond, Option, Some, None, length, drop, get_or, max, refl, sym, ap, ◌∙◌, subst, nat_eq, nat_lt, nat_le, arith, inl, inr}
 use Rattle.std.specs.Set.{is_member}
-use Rattle.std.proofs.lemmas.Bool.{cases_Bool, cases_lt, both_ways, or_cases, or_left, or_right, and_parts, and_from, false_from_ne_true, leb-true, ltb-true, lt-ltb, le-ltb}
+use Rattle.std.proofs.lemmas.Bool.{cases_lt, both_ways, or_right, and_parts, false_from_ne_true, leb-true, ltb-true, lt-ltb}
 use Rattle.midi_model.specs.Notes.{Note, sounds}
 use Rattle.midi_model.specs.Channel.{State, default_state}
 use Rattle.midi_model.specs.Bring.{bring}
@@ -9,8 +9,8 @@ use Rattle.retune_model.specs.Options.{Options, restless}
 use Rattle.retune_model.specs.Ports.{PortEvents, AreTimed, music_at, is_reset_at}
 use Rattle.retune_model.specs.Faults.{Targets, is_part}
 use Rattle.retune_model.specs.Pairs.{Pair, is_same_pair}
-use Rattle.retune_model.specs.Rests.{nobody, notes_at, past_at, is_within_tail, pairs_at, held_at, holds_at, pair_of, pair_at, IsAimedPort, SoundsAt, SoundsOrRests, Rests, Keeps, EndedWithin}
-use Rattle.retune_model.specs.RestLaws.{NotesHoldAsWritten, PairsAreHeldAsWritten, PairsAreOfNotes, HeldWasThere, OneRunBegins, ResetsEndAll, HeldIsThere, LastEndsTell, EndsAreKept, since_reset}
+use Rattle.retune_model.specs.Rests.{nobody, notes_at, past_at, is_within_tail, pairs_at, held_at, holds_at, pair_of, IsAimedPort, SoundsAt}
+use Rattle.retune_model.specs.RestLaws.{NotesHoldAsWritten, PairsAreHeldAsWritten, PairsAreOfNotes, OneRunBegins, ResetsEndAll, HeldIsThere, LastEndsTell, EndsAreKept, since_reset}
 use Rattle.retune_model.specs.LastEnds.{later_end, latest_end, last_end, has_ended}
 use Rattle.retune_model.specs.RunLaws.{PairsAreTold}
 use Rattle.channel_model.specs.Choice.{wanted, bend_value, on_place, pair_on, last_or, last_on, left_state, from_state, held_until, member_bend, member_setup}

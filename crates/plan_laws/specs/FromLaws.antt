@@ -1,5 +1,5 @@
 -- Laws of the states from which runs are brought, on bend and on MPE.
-use Rattle.std.specs.Prelude.{◌≡◌, ◌<◌, ℕ, suc, pos, ◌+ℤ◌, List, [], Bool, true, false, nat_lt, if◌then◌else◌, Option, Some, None, length, replicate}
+use Rattle.std.specs.Prelude.{◌≡◌, ◌<◌, ℕ, suc, pos, ◌+ℤ◌, List, [], Bool, true, false, nat_lt, if◌then◌else◌, Some, length, replicate}
 use Rattle.std.specs.Set.{is_member}
 use Rattle.midi_model.specs.Channel.{State, default_channel, default_state}
 use Rattle.midi_model.specs.Bring.{bring}
@@ -8,7 +8,7 @@ use Rattle.retune_model.specs.Ports.{PortEvents, music_at, is_reset_at}
 use Rattle.retune_model.specs.Faults.{Targets, is_part}
 use Rattle.retune_model.specs.Pairs.{Pair, is_same_pair}
 use Rattle.retune_model.specs.Rests.{pairs_at, held_at, IsAimedPort}
-use Rattle.channel_model.specs.Choice.{wanted, bend_value, pair_on, last_on, from_state, setup_length, member_bend, member_setup}
+use Rattle.channel_model.specs.Choice.{wanted, bend_value, pair_on, last_on, from_state, member_bend, member_setup}
 use Rattle.plan_laws.specs.Placing.{Has}
 use Rattle.plan_laws.specs.PlacingLaws.{IsLeftAlone}
 

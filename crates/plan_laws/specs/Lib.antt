@@ -1,3 +1,4 @@
 pub mod Placing
 pub mod PlacingLaws
 pub mod FromLaws
+pub mod Counting

@@ -2,7 +2,7 @@
 --
 -- `at k` are the pairs at position k, `row b` is the place of the run that begins at position b, and `from c k` is the state of place c
 -- from which a run that begins at position k + 1 is brought, where place c is free then.
-use Rattle.std.specs.Prelude.{◌≡◌, ◌<◌, ◌≤◌, ℕ, suc, List, [], ◌∷◌, Bool, true, false, nat_eq, if◌then◌else◌, Option, Some, None, is_some, length, map, get_or, set}
+use Rattle.std.specs.Prelude.{◌≡◌, ◌<◌, ℕ, suc, List, Bool, true, if◌then◌else◌, Option, Some, None, is_some, length, get_or, set}
 use Rattle.std.specs.Set.{is_member}
 use Rattle.midi_model.specs.Channel.{State, default_state}
 use Rattle.midi_model.specs.Bring.{bring}

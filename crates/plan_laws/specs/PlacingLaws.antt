@@ -1,5 +1,5 @@
 -- Laws of the places of a row of channels, from one position to the next.
-use Rattle.std.specs.Prelude.{◌≡◌, ◌<◌, ◌≤◌, ◌⊎◌, ℕ, suc, List, [], Bool, true, false, Option, Some, None, length, map}
+use Rattle.std.specs.Prelude.{◌≡◌, ◌<◌, ◌⊎◌, ℕ, suc, List, [], Bool, true, false, Option, Some, None, length, map}
 use Rattle.std.specs.Set.{is_member}
 use Rattle.midi_model.specs.Channel.{State, default_state}
 use Rattle.midi_model.specs.Bring.{bring}

@@ -2,6 +2,8 @@
 //! sequence of sets of pairs in which at most one pair's run begins at each position.
 #![tactic(auto)]
 
+mod counting;
 mod places;
 
+pub use counting::{counting_laws, taken_laws};
 pub use places::{leaving_laws, placing_laws};
