@@ -1,3 +1,4 @@
 pub mod Placing
 pub mod From
 pub mod GoingOn
+pub mod Rowing

@@ -38,7 +38,7 @@ on_none told place c (q ∷ qs) p h m s = pick (λ g n. on_none told place c qs 
       | inr later ↦ deeper g later
     ]
 
-on_only : PairsAreTold → (place : Pair → ℕ) (c : ℕ) (ps : List Pair) (p : Pair) → Has ps p → place p ≡ c → ((q : Pair) → Has ps q → place q ≡ c → q ≡ p) → on_place place c ps ≡ Some p
+pub on_only : PairsAreTold → (place : Pair → ℕ) (c : ℕ) (ps : List Pair) (p : Pair) → Has ps p → place p ≡ c → ((q : Pair) → Has ps q → place q ≡ c → q ≡ p) → on_place place c ps ≡ Some p
 on_only told place c ps p m s only = pick (on_place place c ps) refl
   where
     pick : (x : Option Pair) → on_place place c ps ≡ x → on_place place c ps ≡ Some p
@@ -61,7 +61,7 @@ is_new : (at : ℕ → List Pair) (row : ℕ → ℕ) (k : ℕ) (p : Pair) → i
 is_new at row k p h = ap (λ b. row (cond b (since is_same_pair at p k) (suc k))) h
 
 -- a pair that stays on its place
-stay_some : (ps : List Pair) (p : Pair) → Has ps p → stay ps (Some p) ≡ Some p
+pub stay_some : (ps : List Pair) (p : Pair) → Has ps p → stay ps (Some p) ≡ Some p
 stay_some ps p h = ap (λ b. cond b (Some p) None) h
 
 stay_gone : (ps : List Pair) (p : Pair) → is_member is_same_pair ps p ≡ false → stay ps (Some p) ≡ None

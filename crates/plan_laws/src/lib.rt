@@ -6,4 +6,4 @@ mod counting;
 mod places;
 
 pub use counting::{counting_laws, taken_laws};
-pub use places::{leaving_laws, placing_laws};
+pub use places::{leaving_laws, placing_laws, row_laws};

@@ -3,8 +3,13 @@
 ghost use Rattle.plan_laws.specs.PlacingLaws.{NoneAtFirst, LeavingFrees, ClearingFrees, NoneBegins, OneBeginsOn, BestIsTaken, NoneIsTaken, OneIsFree};
 
 ghost use Rattle.plan_laws.specs.FromLaws.{BendIsLeftAlone, BendIsCleared, BendLeaves, RestsBeforeItLeaves, HeldHolds, MemberIsLeftAlone, MemberIsCleared, MemberLeaves, MemberCosts};
+ghost use Rattle.plan_laws.specs.Rows.{RowAtFirst, RowIsOfParts, RowLeaves, RowIsCleared, RowStays, RowGoesOn, RowTakes, RowHasRoom};
 
-use retune_model::{elsewhere, last_ends, pair_laws, rests_are_runs, rests_as_written, without_rests};
+use crate::counting::{counting_laws, taken_laws};
+use retune_model::{
+    elsewhere, fewest_channels, held_laws, last_ends, pair_laws, position_laws, rests_are_runs, rests_as_written,
+    sound_sources, without_rests,
+};
 
 /// What the places of a row hold is kept by each event: those whose pairs it ends are freed, a reset frees all, and a
 /// run that begins goes on the best of the free ones, of which there is one.
@@ -41,4 +46,28 @@ pub fn leaving_laws()
     last_ends();
     elsewhere();
     without_rests();
+}
+
+/// What a used row holds of a source without a fault, event by event: which pair is on each place, and that each run got the
+/// free place with the shortest setup.
+pub fn row_laws()
+    ensures first { RowAtFirst }
+    ensures parts { RowIsOfParts }
+    ensures leaves { RowLeaves }
+    ensures cleared { RowIsCleared }
+    ensures stays { RowStays }
+    ensures goes_on { RowGoesOn }
+    ensures takes { RowTakes }
+    ensures room { RowHasRoom }
+{
+    pair_laws();
+    sound_sources();
+    rests_are_runs();
+    elsewhere();
+    held_laws();
+    fewest_channels();
+    position_laws();
+    taken_laws();
+    counting_laws();
+    leaving_laws();
 }
