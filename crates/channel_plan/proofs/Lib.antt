@@ -1,3 +1,4 @@
 pub mod Inserting
 pub mod Putting
 pub mod Recasting
+pub mod Seen

@@ -21,7 +21,8 @@ pub on_found : PairsAreTold → (place : Pair → ℕ) (c : ℕ) (ps : List Pair
 on_found told place c [] p h = absurd cc
 on_found told place c (q ∷ qs) p h = pick (λ g. on_found told place c qs p g) (nat_eq (place q) c) refl h
   where
-    pick : (on_place place c qs ≡ Some p → Has qs p × (place p ≡ c)) → (b : Bool) → nat_eq (place q) c ≡ b → cond b (Some q) (on_place place c qs) ≡ Some p → Has (q ∷ qs) p × (place p ≡ c)
+    pick : (on_place place c qs ≡ Some p → Has qs p × (place p ≡ c)) → (b : Bool) → nat_eq (place q) c ≡ b
+        → cond b (Some q) (on_place place c qs) ≡ Some p → Has (q ∷ qs) p × (place p ≡ c)
     pick later true e g =
         let s : q ≡ p = some_same q p g in
         (or_left (is_same_pair p q) (is_member is_same_pair qs p) ((told p q).1 (sym s)), ap place (sym s) ∙ eqb-true (place q) c e)
@@ -38,7 +39,8 @@ on_none told place c (q ∷ qs) p h m s = pick (λ g n. on_none told place c qs 
       | inr later ↦ deeper g later
     ]
 
-pub on_only : PairsAreTold → (place : Pair → ℕ) (c : ℕ) (ps : List Pair) (p : Pair) → Has ps p → place p ≡ c → ((q : Pair) → Has ps q → place q ≡ c → q ≡ p) → on_place place c ps ≡ Some p
+pub on_only : PairsAreTold → (place : Pair → ℕ) (c : ℕ) (ps : List Pair) (p : Pair) → Has ps p → place p ≡ c → ((q : Pair) → Has ps q
+    → place q ≡ c → q ≡ p) → on_place place c ps ≡ Some p
 on_only told place c ps p m s only = pick (on_place place c ps) refl
   where
     pick : (x : Option Pair) → on_place place c ps ≡ x → on_place place c ps ≡ Some p
@@ -90,9 +92,11 @@ stays_on told at row n k c runs old = pick (pair_on at row c k) refl
         ]
 
         by_it : (b : Bool) → is_member is_same_pair (at (suc k)) p ≡ b → pair_on at row c (suc k) ≡ stay (at (suc k)) (Some p)
-        by_it true h = on_only told (place_at at row (suc k)) c (at (suc k)) p h (goes_on at row k p there.0 ∙ there.1) same ∙ sym (stay_some (at (suc k)) p h)
+        by_it true h = on_only told (place_at at row (suc k)) c (at (suc k)) p h (goes_on at row k p there.0 ∙ there.1) same
+            ∙ sym (stay_some (at (suc k)) p h)
         by_it false h =
-            on_empty told (place_at at row (suc k)) c (at (suc k)) (λ q m s. both_ways (is_member is_same_pair (at (suc k)) p) h (subst (Has (at (suc k))) (same q m s) m))
+            on_empty told (place_at at row (suc k)) c (at (suc k)) (λ q m s. both_ways (is_member is_same_pair (at (suc k)) p) h (subst (Has (at
+                (suc k))) (same q m s) m))
             ∙ sym (stay_gone (at (suc k)) p h)
 
 -- ---- at first
@@ -100,7 +104,8 @@ stays_on told at row n k c runs old = pick (pair_on at row c k) refl
 none_there : (ps : List Pair) (p : Pair) → ps ≡ [] → Has ps p → ⊥
 none_there ps p e h = both_ways false refl (ap (λ xs. is_member is_same_pair xs p) (sym e) ∙ h)
 
-pub at_first : (at : ℕ → List Pair) (row : ℕ → ℕ) (from : ℕ → ℕ → State) (ss : List Seen) → at 0 ≡ [] → ((c : ℕ) → from c 0 ≡ default_state) → AllAreNowhere ss
+pub at_first : (at : ℕ → List Pair) (row : ℕ → ℕ) (from : ℕ → ℕ → State) (ss : List Seen) → at 0 ≡ [] → ((c : ℕ) → from c 0 ≡ default_state)
+    → AllAreNowhere ss
     → HasPlaces at row from 0 ss
 at_first at row from ss none first nothing = record {
   runs = record { within = λ p h. absurd (none_there (at 0) p none h); apart = λ p q h g e. absurd (none_there (at 0) p none h) };
@@ -116,8 +121,10 @@ taken_then : (at : ℕ → List Pair) (row : ℕ → ℕ) (c k : ℕ) (p : Pair)
 taken_then at row c zero p none h = let e : None ≡ Some p = sym (ap (on_place (place_at at row 0) c) none) ∙ h in absurd cc
 taken_then at row c (suc k) p none h = ap (λ x. cond (is_taken x) (suc (suc k)) (free_since at row c k)) h
 
-pub frees : PairsAreTold → (at : ℕ → List Pair) (row : ℕ → ℕ) (from : ℕ → ℕ → State) (k : ℕ) (ss : List Seen) (holds : Pair → Bool) (leaves : Pair → Option State)
-    → at 0 ≡ [] → HasPlaces at row from k ss → TellsLeaving at row from k ss holds leaves → HasLeft at row from k (map (leave holds leaves (suc k)) ss)
+pub frees : PairsAreTold → (at : ℕ → List Pair) (row : ℕ → ℕ) (from : ℕ → ℕ → State) (k : ℕ) (ss : List Seen) (holds : Pair
+    → Bool) (leaves : Pair → Option State)
+    → at 0 ≡ [] → HasPlaces at row from k ss → TellsLeaving at row from k ss holds leaves
+        → HasLeft at row from k (map (leave holds leaves (suc k)) ss)
 frees told at row from k ss holds leaves none has tells = record {
   runs = subst (λ n. AreApart at row n k) (sym long) has.runs;
   on = λ c l. (one c (shorter c l)).0;
@@ -135,7 +142,8 @@ frees told at row from k ss holds leaves none has tells = record {
     shorter c l = omega (arith, l, long)
 
     Freed : ℕ → Seen → Type 0
-    Freed c s = (s.pair ≡ stay (at (suc k)) (pair_on at row c k)) × (s.pair ≡ None → s.since ≡ free_since at row c k) × (s.pair ≡ None → s.left ≡ from c k)
+    Freed c s = (s.pair ≡ stay (at (suc k)) (pair_on at row c k)) × (s.pair ≡ None → s.since ≡ free_since at row c k) × (s.pair ≡ None
+        → s.left ≡ from c k)
 
     one : (c : ℕ) → c < length ss → Freed c (seen_at gone c)
     one c l = subst (Freed c) (sym (get_or-map (leave holds leaves (suc k)) ss c nowhere nowhere l)) (pick (seen_at ss c).pair refl)
@@ -151,17 +159,22 @@ frees told at row from k ss holds leaves none has tells = record {
             there = (on_found told (place_at at row k) c (at k) p here).0
 
             by_it : (b : Bool) → is_member is_same_pair (at (suc k)) p ≡ b → Freed c (leave_if holds leaves (suc k) (Some p) (seen_at ss c))
-            by_it true h = subst (λ b. Freed c (cond b (seen_at ss c) (record { pair = None; left = or_kept (seen_at ss c).left (leaves p); since = suc k }))) (sym (tells.stays p there ∙ h))
+            by_it true h = subst (λ b. Freed c (cond b (seen_at ss c) (record { pair = None; left = or_kept (seen_at ss c).left (leaves p); since =
+                suc k }))) (sym (tells.stays p there ∙ h))
                 (e ∙ sym (ap (stay (at (suc k))) here ∙ stay_some (at (suc k)) p h), (λ g. has.since c l g), (λ g. has.left c l g))
-            by_it false h = subst (λ b. Freed c (cond b (seen_at ss c) (record { pair = None; left = or_kept (seen_at ss c).left (leaves p); since = suc k }))) (sym (tells.stays p there ∙ h))
-                (sym (ap (stay (at (suc k))) here ∙ stay_gone (at (suc k)) p h), (λ g. sym (taken_then at row c k p none here)), (λ g. tells.left c p l here h))
+            by_it false h = subst (λ b. Freed c (cond b (seen_at ss c) (record { pair = None; left = or_kept (seen_at ss c).left (leaves p); since
+                = suc k }))) (sym (tells.stays p there ∙ h))
+                (sym (ap (stay (at (suc k))) here ∙ stay_gone (at (suc k)) p h), (λ g. sym (taken_then at row c k p none here)), (λ g. tells.left c
+                    p l here h))
 
 pub clears : PairsAreTold → (at : ℕ → List Pair) (row : ℕ → ℕ) (from : ℕ → ℕ → State) (k : ℕ) (ss : List Seen)
-    → at 0 ≡ [] → HasPlaces at row from k ss → at (suc k) ≡ [] → ((c : ℕ) → from c (suc k) ≡ default_state) → HasPlaces at row from (suc k) (map (clear (suc k)) ss)
+    → at 0 ≡ [] → HasPlaces at row from k ss → at (suc k) ≡ [] → ((c : ℕ) → from c (suc k) ≡ default_state)
+        → HasPlaces at row from (suc k) (map (clear (suc k)) ss)
 clears told at row from k ss none has empty first = record {
   runs = record { within = λ p h. absurd (none_there (at (suc k)) p empty h); apart = λ p q h g e. absurd (none_there (at (suc k)) p empty h) };
   on = λ c l. ap (λ s. s.pair) (at_it c (shorter c l)) ∙ sym (nothing c);
-  since = λ c l h. ap (λ s. s.since) (at_it c (shorter c l)) ∙ freed c (shorter c l) ∙ sym (ap (λ x. cond (is_taken x) (suc (suc k)) (free_since at row c k)) (nothing c));
+  since = λ c l h. ap (λ s. s.since) (at_it c (shorter c l)) ∙ freed c (shorter c l)
+      ∙ sym (ap (λ x. cond (is_taken x) (suc (suc k)) (free_since at row c k)) (nothing c));
   left = λ c l h. ap (λ s. s.left) (at_it c (shorter c l)) ∙ sym (first c);
 }
   where
@@ -205,15 +218,18 @@ none_begins told at row from k ss left old alone = record {
     free c l h = stays c ∙ sym (left.on c l) ∙ h
 
 -- a run begins where its pair was not
-new_there : (at : ℕ → List Pair) (k : ℕ) (p : Pair) → begins is_same_pair at k p ≡ true → Has (at (suc k)) p × (is_member is_same_pair (at k) p ≡ false)
-new_there at k p h = let two = and_parts (is_member is_same_pair (at (suc k)) p) (not (is_member is_same_pair (at k) p)) h in (two.0, pick (is_member is_same_pair (at k) p) two.1)
+new_there : (at : ℕ → List Pair) (k : ℕ) (p : Pair) → begins is_same_pair at k p ≡ true
+    → Has (at (suc k)) p × (is_member is_same_pair (at k) p ≡ false)
+new_there at k p h = let two = and_parts (is_member is_same_pair (at (suc k)) p) (not (is_member is_same_pair (at k) p)) h in (two.0, pick
+    (is_member is_same_pair (at k) p) two.1)
   where
     pick : (b : Bool) → not b ≡ true → b ≡ false
     pick true e = absurd cc
     pick false e = refl
 
 -- what is free right before a run begins has no pair that stays
-free_before : PairsAreTold → (at : ℕ → List Pair) (row : ℕ → ℕ) (n k c : ℕ) (q : Pair) → AreApart at row n k → stay (at (suc k)) (pair_on at row c k) ≡ None
+free_before : PairsAreTold → (at : ℕ → List Pair) (row : ℕ → ℕ) (n k c : ℕ) (q : Pair) → AreApart at row n k
+    → stay (at (suc k)) (pair_on at row c k) ≡ None
     → Has (at k) q → Has (at (suc k)) q → place_at at row k q ≡ c → ⊥
 free_before told at row n k c q runs free old new s =
     let e : pair_on at row c k ≡ Some q = on_only told (place_at at row k) c (at k) q old s (λ r m t. runs.apart r q m old (t ∙ sym s)) in
@@ -275,7 +291,8 @@ one_begins told at row from k ss p c left news l free to alone = record {
     on : (d : ℕ) → d < length (begin_on ss c p) → (seen_at (begin_on ss c p) d).pair ≡ pair_on at row d (suc k)
     on d m = elim (cases_eq d c) [
       | inl e ↦ ap (λ x. (seen_at (begin_on ss c p) x).pair) e ∙ ap (λ s. s.pair) (get_or-set_same ss c put nowhere l)
-          ∙ sym (ap (λ x. pair_on at row x (suc k)) e ∙ on_only told (place_at at row (suc k)) c (at (suc k)) p new.0 its (λ q n s. apart q p n new.0 (s ∙ sym its)))
+          ∙ sym (ap (λ x. pair_on at row x (suc k)) e ∙ on_only told (place_at at row (suc k)) c (at (suc k)) p new.0 its (λ q n s. apart q p n
+              new.0 (s ∙ sym its)))
       | inr n ↦ ap (λ s. s.pair) (get_or-set_other ss c d put nowhere n) ∙ left.on d (omega (arith, m, long)) ∙ sym (stays d n)
     ]
 
@@ -284,13 +301,15 @@ one_begins told at row from k ss p c left news l free to alone = record {
 
     other : (d : ℕ) → d < length (begin_on ss c p) → (seen_at (begin_on ss c p) d).pair ≡ None → Kept d
     other d m h = elim (cases_eq d c) [
-      | inl e ↦ (let g : Some p ≡ None = sym (ap (λ x. (seen_at (begin_on ss c p) x).pair) e ∙ ap (λ s. s.pair) (get_or-set_same ss c put nowhere l)) ∙ h in absurd cc)
+      | inl e ↦ (let g : Some p ≡ None = sym (ap (λ x. (seen_at (begin_on ss c p) x).pair) e
+          ∙ ap (λ s. s.pair) (get_or-set_same ss c put nowhere l)) ∙ h in absurd cc)
       | inr n ↦
           let as_was = get_or-set_other ss c d put nowhere n in
           let o : d < length ss = omega (arith, m, long) in
           let was : (seen_at ss d).pair ≡ None = sym (ap (λ s. s.pair) as_was) ∙ h in
           let now : pair_on at row d (suc k) ≡ None = stays d n ∙ sym (left.on d o) ∙ was in
-          (ap (λ s. s.since) as_was ∙ left.since d o was ∙ sym (still_free at row d k now), ap (λ s. s.left) as_was ∙ left.left d o was ∙ sym (alone d now))
+          (ap (λ s. s.since) as_was ∙ left.since d o was ∙ sym (still_free at row d k now), ap (λ s. s.left) as_was ∙ left.left d o was
+              ∙ sym (alone d now))
     ]
 
 -- ---- the choice
@@ -313,7 +332,8 @@ none_taken at row k n cost takes old = record {
     ]
 
 -- a place is free exactly where no pair stays on it
-free_then : PairsAreTold → (at : ℕ → List Pair) (row : ℕ → ℕ) (k c : ℕ) → IsFree is_same_pair at row k c → stay (at (suc k)) (pair_on at row c k) ≡ None
+free_then : PairsAreTold → (at : ℕ → List Pair) (row : ℕ → ℕ) (k c : ℕ) → IsFree is_same_pair at row k c
+    → stay (at (suc k)) (pair_on at row c k) ≡ None
 free_then told at row k c free = pick (pair_on at row c k) refl
   where
     pick : (x : Option Pair) → pair_on at row c k ≡ x → stay (at (suc k)) x ≡ None
@@ -326,18 +346,21 @@ pub one_free : PairsAreTold → (at : ℕ → List Pair) (row : ℕ → ℕ) (fr
     → HasLeft at row from k ss → HasRoom is_same_pair at (length ss) row k → (c : ℕ) × (c < length ss) × ((seen_at ss c).pair ≡ None)
 one_free told at row from k ss left room = (room.0, room.1, left.on room.0 room.1 ∙ free_then told at row k room.0 room.2)
 
-pub best_taken : PairsAreTold → (at : ℕ → List Pair) (row : ℕ → ℕ) (from : ℕ → ℕ → State) (k : ℕ) (ss : List Seen) (p : Pair) (c : ℕ) (wanted : State) (cost : Pair → ℕ → ℕ → ℕ)
+pub best_taken : PairsAreTold → (at : ℕ → List Pair) (row : ℕ → ℕ) (from : ℕ → ℕ → State) (k : ℕ) (ss : List Seen) (p : Pair) (c : ℕ) (wanted :
+    State) (cost : Pair → ℕ → ℕ → ℕ)
     → TakesBest at k (length ss) cost row → HasLeft at row from k ss → OnlyBegins at k p → IsBestSeen ss wanted c → row (suc k) ≡ c
     → ((d : ℕ) → cost p d k ≡ length (bring 0 (from d k) wanted))
     → TakesBest at (suc k) (length ss) cost row
 best_taken told at row from k ss p c wanted cost takes left news chosen to costs = record {
   within = λ j q l b. elim (cases_lt j k) [
     | inl h ↦ takes.within j q h b
-    | inr h ↦ let e : j ≡ k = omega (arith, l, h) in subst (λ x. row (suc x) < length ss) (sym e) (subst (λ x. x < length ss) (sym to) chosen.within)
+    | inr h ↦ let e : j ≡ k = omega (arith, l, h) in subst (λ x. row (suc x) < length ss) (sym e) (subst (λ x. x < length ss) (sym to)
+        chosen.within)
   ];
   free = λ j q l b. elim (cases_lt j k) [
     | inl h ↦ takes.free j q h b
-    | inr h ↦ let e : j ≡ k = omega (arith, l, h) in subst (λ x. IsFree is_same_pair at row x (row (suc x))) (sym e) (subst (IsFree is_same_pair at row k) (sym to) is_free)
+    | inr h ↦ let e : j ≡ k = omega (arith, l, h) in subst (λ x. IsFree is_same_pair at row x (row (suc x))) (sym e) (subst (IsFree is_same_pair at
+        row k) (sym to) is_free)
   ];
   best = λ j q d l b m f. elim (cases_lt j k) [
     | inl h ↦ takes.best j q d h b m f
@@ -352,12 +375,14 @@ best_taken told at row from k ss p c wanted cost takes left news chosen to costs
     is_free : IsFree is_same_pair at row k c
     is_free q m h s = free_before told at row (length ss) k c q left.runs (sym (left.on c chosen.within) ∙ chosen.free) h m s
 
-    by_best : (q : Pair) → begins is_same_pair at k q ≡ true → (d : ℕ) → d < length ss → IsFree is_same_pair at row k d → IsNoWorse (λ i. cost q i k) (λ i. free_since at row i k) c d
+    by_best : (q : Pair) → begins is_same_pair at k q ≡ true → (d : ℕ) → d < length ss → IsFree is_same_pair at row k d
+        → IsNoWorse (λ i. cost q i k) (λ i. free_since at row i k) c d
     by_best q b d m f =
         let new = new_there at k q b in
         let same : q ≡ p = elim (news.only q new.0) [ inl h ↦ absurd (both_ways (is_member is_same_pair (at k) q) new.1 h) | inr e ↦ e ] in
         let free : (seen_at ss d).pair ≡ None = left.on d m ∙ free_then told at row k d f in
-        let price = λ (i : ℕ) (l : i < length ss) (g : (seen_at ss i).pair ≡ None). ap (λ x. cost x i k) same ∙ costs i ∙ ap (λ s. length (bring 0 s wanted)) (sym (left.left i l g)) in
+        let price = λ (i : ℕ) (l : i < length ss) (g : (seen_at ss i).pair ≡ None). ap (λ x. cost x i k) same ∙ costs i
+            ∙ ap (λ s. length (bring 0 s wanted)) (sym (left.left i l g)) in
         let cc_ : cost q c k ≡ length (bring 0 (seen_at ss c).left wanted) = price c chosen.within chosen.free in
         let cd : cost q d k ≡ length (bring 0 (seen_at ss d).left wanted) = price d m free in
         let sc : (seen_at ss c).since ≡ free_since at row c k = left.since c chosen.within chosen.free in

@@ -71,10 +71,13 @@ module _ (kit : RowKit) (o : Options) (part : ℕ → Bool) (table : Targets) (e
   -- ---- the state from which a run is brought
 
   from_bend : (row : ℕ → ℕ) (c k : ℕ) → is_bend o.route ≡ true → from_on o part table es z row c k ≡ from_state o table (port_at es z) row c k
-  from_bend row c k e = ap (λ b. cond b (from_state o table (port_at es z) row c k) (member_from (port_at es z) (pairs_on o part table es z) row c k)) e
+  from_bend row c k e = ap (λ b. cond b (from_state o table (port_at es z) row c k) (member_from (port_at es z) (pairs_on o part table es z) row c
+      k)) e
 
-  from_member : (row : ℕ → ℕ) (c k : ℕ) → is_bend o.route ≡ false → from_on o part table es z row c k ≡ member_from (port_at es z) (pairs_on o part table es z) row c k
-  from_member row c k e = ap (λ b. cond b (from_state o table (port_at es z) row c k) (member_from (port_at es z) (pairs_on o part table es z) row c k)) e
+  from_member : (row : ℕ → ℕ) (c k : ℕ) → is_bend o.route ≡ false → from_on o part table es z row c k ≡ member_from (port_at es z) (pairs_on o part
+      table es z) row c k
+  from_member row c k e = ap (λ b. cond b (from_state o table (port_at es z) row c k) (member_from (port_at es z) (pairs_on o part table es z) row
+      c k)) e
 
   from_first : (row : ℕ → ℕ) (c : ℕ) → from_on o part table es z row c 0 ≡ default_state
   from_first row c = pick (is_bend o.route) refl
@@ -83,28 +86,34 @@ module _ (kit : RowKit) (o : Options) (part : ℕ → Bool) (table : Targets) (e
       pick true e = from_bend row c 0 e
       pick false e = from_member row c 0 e
 
-  alone : (row : ℕ → ℕ) (k : ℕ) → IsRowOf o part table es → is_reset_at (of_port z es) (suc k) ≡ false → IsLeftAlone (pairs_on o part table es z) row (from_on o part table es z row) k
+  alone : (row : ℕ → ℕ) (k : ℕ) → IsRowOf o part table es → is_reset_at (of_port z es) (suc k) ≡ false
+      → IsLeftAlone (pairs_on o part table es z) row (from_on o part table es z row) k
   alone row k of r c h = pick (is_bend o.route) refl
     where
       pick : (b : Bool) → is_bend o.route ≡ b → from_on o part table es z row c (suc k) ≡ from_on o part table es z row c k
-      pick true e = from_bend row c (suc k) e ∙ kit.alone o table (port_at es z) row k r c (subst (λ q. pair_on (pairs_on o q table es z) row c (suc k) ≡ None) (of.all e) h) ∙ sym (from_bend row c k e)
-      pick false e = from_member row c (suc k) e ∙ kit.member_alone (port_at es z) (pairs_on o part table es z) row k r c h ∙ sym (from_member row c k e)
+      pick true e = from_bend row c (suc k) e ∙ kit.alone o table (port_at es z) row k r c (subst (λ q. pair_on (pairs_on o q table es z) row c
+          (suc k) ≡ None) (of.all e) h) ∙ sym (from_bend row c k e)
+      pick false e = from_member row c (suc k) e ∙ kit.member_alone (port_at es z) (pairs_on o part table es z) row k r c h
+          ∙ sym (from_member row c k e)
 
   cleared : (row : ℕ → ℕ) (k c : ℕ) → is_reset_at (of_port z es) (suc k) ≡ true → from_on o part table es z row c (suc k) ≡ default_state
   cleared row k c r = pick (is_bend o.route) refl
     where
       pick : (b : Bool) → is_bend o.route ≡ b → from_on o part table es z row c (suc k) ≡ default_state
       pick true e = from_bend row c (suc k) e ∙ kit.cleared o table (port_at es z) row k c r
-      pick false e = from_member row c (suc k) e ∙ kit.member_cleared (port_at es z) (pairs_on o part table es z) row k c r (kit.ends o part table (port_at es z) k r)
+      pick false e = from_member row c (suc k) e ∙ kit.member_cleared (port_at es z) (pairs_on o part table es z) row k c r (kit.ends o part table
+          (port_at es z) k r)
 
-  needed_bend : (fs : List MidiEvent) (p : Pair) → is_bend o.route ≡ true → needed o table fs p ≡ wanted o table (after (events_on p.part.port fs)).music p
+  needed_bend : (fs : List MidiEvent) (p : Pair) → is_bend o.route ≡ true → needed o table fs p ≡ wanted o table (after (events_on p.part.port
+      fs)).music p
   needed_bend fs p e = ap (λ b. cond b (wanted o table (after (events_on p.part.port fs)).music p) (member_state p)) e
 
   needed_member : (fs : List MidiEvent) (p : Pair) → is_bend o.route ≡ false → needed o table fs p ≡ member_state p
   needed_member fs p e = ap (λ b. cond b (wanted o table (after (events_on p.part.port fs)).music p) (member_state p)) e
 
   -- of a pair of this port
-  needed_there : (k : ℕ) (p : Pair) → p.part.port ≡ z → is_bend o.route ≡ true → needed o table (take k es) p ≡ wanted o table (music_at (of_port z es) k) p
+  needed_there : (k : ℕ) (p : Pair) → p.part.port ≡ z → is_bend o.route ≡ true → needed o table (take k es) p ≡ wanted o table (music_at (of_port z
+      es) k) p
   needed_there k p port e =
       needed_bend (take k es) p e
       ∙ ap (λ y. wanted o table (after (events_on y (take k es))).music p) port
@@ -127,11 +136,13 @@ module _ (kit : RowKit) (o : Options) (part : ℕ → Bool) (table : Targets) (e
 
 -- ---- states that are kept before an event
 
-keep_same : (sounds : Pair → Bool) (needs : Pair → State) (x : Option Pair) (s : Seen) → ((keep_if sounds needs x s).pair ≡ s.pair) × ((keep_if sounds needs x s).since ≡ s.since)
+keep_same : (sounds : Pair → Bool) (needs : Pair → State) (x : Option Pair) (s : Seen)
+    → ((keep_if sounds needs x s).pair ≡ s.pair) × ((keep_if sounds needs x s).since ≡ s.since)
 keep_same sounds needs None s = (refl, refl)
 keep_same sounds needs (Some p) s = pick (sounds p)
   where
-    pick : (b : Bool) → ((cond b s (record { pair = s.pair; left = needs p; since = s.since })).pair ≡ s.pair) × ((cond b s (record { pair = s.pair; left = needs p; since = s.since })).since ≡ s.since)
+    pick : (b : Bool) → ((cond b s (record { pair = s.pair; left = needs p; since = s.since })).pair ≡ s.pair) × ((cond b s (record { pair =
+        s.pair; left = needs p; since = s.since })).since ≡ s.since)
     pick true = (refl, refl)
     pick false = (refl, refl)
 
@@ -140,7 +151,8 @@ kept_places : (at : ℕ → List Pair) (row : ℕ → ℕ) (from : ℕ → ℕ �
 kept_places at row from k ss sounds needs has = record {
   runs = subst (λ n. AreApart at row n k) (sym long) has.runs;
   on = λ c l. pair c (less c l) ∙ has.on c (less c l);
-  since = λ c l h. ap (λ s. s.since) (there c (less c l)) ∙ (keep_same sounds needs (seen_at ss c).pair (seen_at ss c)).1 ∙ has.since c (less c l) (sym (pair c (less c l)) ∙ h);
+  since = λ c l h. ap (λ s. s.since) (there c (less c l)) ∙ (keep_same sounds needs (seen_at ss c).pair (seen_at ss c)).1
+      ∙ has.since c (less c l) (sym (pair c (less c l)) ∙ h);
   left = λ c l h.
       let none : (seen_at ss c).pair ≡ None = sym (pair c (less c l)) ∙ h in
       ap (λ s. s.left) (there c (less c l)) ∙ ap (λ x. (keep_if sounds needs x (seen_at ss c)).left) none ∙ has.left c (less c l) none;
@@ -160,7 +172,8 @@ kept_places at row from k ss sounds needs has = record {
 
 -- ---- a row
 
-leave_by : (o : Options) (table : Targets) (fs : List MidiEvent) (p : Pair) → keeps_before o ≡ false → leaves_by o table fs p ≡ Some (needed o table fs p)
+leave_by : (o : Options) (table : Targets) (fs : List MidiEvent) (p : Pair) → keeps_before o ≡ false
+    → leaves_by o table fs p ≡ Some (needed o table fs p)
 leave_by o table fs p e = ap (λ b. cond b None (Some (needed o table fs p))) e
 
 leave_kept : (o : Options) (table : Targets) (fs : List MidiEvent) (p : Pair) → keeps_before o ≡ true → leaves_by o table fs p ≡ None
@@ -197,8 +210,10 @@ module _ (kit : RowKit) (o : Options) (part : ℕ → Bool) (table : Targets) (e
 
   pub row_first : (row : ℕ → ℕ) (ss : List Seen) → IsRowOf o part table es → AllAreNowhere ss → IsRowAt o part table es z row 0 ss
   row_first row ss of nothing = record {
-    places = at_first sets row (from_on o part table es z row) ss (none_first kit o part table es z of) (from_first kit o part table es z row) nothing;
-    takes = record { within = λ k p l b. absurd (omega (arith, l)); free = λ k p l b. absurd (omega (arith, l)); best = λ k p c l b. absurd (omega (arith, l)) };
+    places = at_first sets row (from_on o part table es z row) ss (none_first kit o part table es z of) (from_first kit o part table es z row)
+        nothing;
+    takes = record { within = λ k p l b. absurd (omega (arith, l)); free = λ k p l b. absurd (omega (arith, l)); best = λ k p c l b. absurd (omega
+        (arith, l)) };
   }
 
   -- before an event what is kept of places changes in their states alone
@@ -212,11 +227,13 @@ module _ (kit : RowKit) (o : Options) (part : ℕ → Bool) (table : Targets) (e
       needs : Pair → State
       needs = needed o table (take k es)
 
-      pick : (b : Bool) → HasPlaces sets row (from_on o part table es z row) k (cond b (map (keep sounds needs) ss) ss) × (length (cond b (map (keep sounds needs) ss) ss) ≡ length ss)
+      pick : (b : Bool) → HasPlaces sets row (from_on o part table es z row) k (cond b (map (keep sounds needs) ss) ss) × (length (cond b (map
+          (keep sounds needs) ss) ss) ≡ length ss)
       pick true = (kept_places sets row (from_on o part table es z row) k ss sounds needs is.places, length-map ss (keep sounds needs))
       pick false = (is.places, refl)
 
-  pub row_parts : (row : ℕ → ℕ) (k : ℕ) (ss : List Seen) (c : ℕ) (p : Pair) → IsRowOf o part table es → IsRowAt o part table es z row k ss → (seen_at ss c).pair ≡ Some p
+  pub row_parts : (row : ℕ → ℕ) (k : ℕ) (ss : List Seen) (c : ℕ) (p : Pair) → IsRowOf o part table es → IsRowAt o part table es z row k ss
+      → (seen_at ss c).pair ≡ Some p
       → (part p.part.channel ≡ true) × (p.part.port ≡ z)
   row_parts row k ss c p of is h =
       let m = (on_found kit.told (place_at sets row k) c (sets k) p (sym (is.places.on c (seen_within ss c p h)) ∙ h)).0 in
@@ -224,8 +241,10 @@ module _ (kit : RowKit) (o : Options) (part : ℕ → Bool) (table : Targets) (e
       (own.1, own.0)
 
   -- the state in which a pair leaves
-  tells : (row : ℕ → ℕ) (k : ℕ) (e : MidiEvent) (ss : List Seen) → IsRowOf o part table es → ComesAt es k e → IsRowAt o part table es z row k ss → is_reset_at (of_port z es) (suc k) ≡ false
-      → TellsLeaving sets row (from_on o part table es z row) k (kept o table (take k es) ss) (holds_after o table (take (suc k) es)) (leaves_by o table (take (suc k) es))
+  tells : (row : ℕ → ℕ) (k : ℕ) (e : MidiEvent) (ss : List Seen) → IsRowOf o part table es → ComesAt es k e → IsRowAt o part table es z row k ss
+      → is_reset_at (of_port z es) (suc k) ≡ false
+      → TellsLeaving sets row (from_on o part table es z row) k (kept o table (take k es) ss) (holds_after o table (take (suc k) es)) (leaves_by o
+          table (take (suc k) es))
   tells row k e_ ss of comes is r = record {
     stays = λ p h.
         let own = kit.own o part table es z k p of.parts of.sound h in
@@ -241,12 +260,15 @@ module _ (kit : RowKit) (o : Options) (part : ℕ → Bool) (table : Targets) (e
       From : ℕ → Pair → State → Type 0
       From c p s = or_kept s (leaves_by o table (take (suc k) es) p) ≡ from_on o part table es z row c k
 
-      by_route : (c : ℕ) (p : Pair) → c < length (kept o table (take k es) ss) → pair_on sets row c k ≡ Some p → is_member is_same_pair (sets (suc k)) p ≡ false
+      by_route : (c : ℕ) (p : Pair) → c < length (kept o table (take k es) ss) → pair_on sets row c k ≡ Some p
+          → is_member is_same_pair (sets (suc k)) p ≡ false
           → (b : Bool) → is_bend o.route ≡ b → From c p (seen_at (kept o table (take k es) ss) c).left
       by_route c p l on gone false e =
           let none : keeps_before o ≡ false = ap (λ b. b && nat_lt 0 o.tail) e in
-          ap (or_kept (seen_at (kept o table (take k es) ss) c).left) (leave_by o table (take (suc k) es) p none ∙ ap Some (needed_member kit o part table es z (take (suc k) es) p e))
-          ∙ sym (from_member kit o part table es z row c k e ∙ kit.member_leaves (port_at es z) sets row k c p (none_first kit o part table es z of) on)
+          ap (or_kept (seen_at (kept o table (take k es) ss) c).left) (leave_by o table (take (suc k) es) p none
+              ∙ ap Some (needed_member kit o part table es z (take (suc k) es) p e))
+          ∙ sym (from_member kit o part table es z row c k e ∙ kit.member_leaves (port_at es z) sets row k c p (none_first kit o part table es z
+              of) on)
       by_route c p l on gone true e = by_tail (nat_lt 0 o.tail) refl
         where
           is_all : part ≡ is_part o
@@ -254,14 +276,16 @@ module _ (kit : RowKit) (o : Options) (part : ℕ → Bool) (table : Targets) (e
 
           left : from_on o part table es z row c k ≡ wanted o table (music_at (of_port z es) (cond (nat_lt 0 o.tail) k (suc k))) p
           left = from_bend kit o part table es z row c k e
-              ∙ kit.leaves o table (port_at es z) row k c p (subst (λ q. IsAimedPort o q table (port_at es z)) is_all (aimed_port kit o part table es z of)) r
+              ∙ kit.leaves o table (port_at es z) row k c p (subst (λ q. IsAimedPort o q table (port_at es z)) is_all (aimed_port kit o part table
+                  es z of)) r
                 (subst (λ q. pair_on (pairs_on o q table es z) row c k ≡ Some p) is_all on)
                 (subst (λ q. is_member is_same_pair (pairs_on o q table es z (suc k)) p ≡ false) is_all gone)
 
           by_tail : (t : Bool) → nat_lt 0 o.tail ≡ t → From c p (seen_at (kept o table (take k es) ss) c).left
           by_tail false f =
               let none : keeps_before o ≡ false = ap (λ b. b && nat_lt 0 o.tail) e ∙ f in
-              ap (or_kept (seen_at (kept o table (take k es) ss) c).left) (leave_by o table (take (suc k) es) p none ∙ ap Some (needed_there kit o part table es z (suc k) p (own_port c p on) e))
+              ap (or_kept (seen_at (kept o table (take k es) ss) c).left) (leave_by o table (take (suc k) es) p none
+                  ∙ ap Some (needed_there kit o part table es z (suc k) p (own_port c p on) e))
               ∙ sym (left ∙ ap (λ b. wanted o table (music_at (of_port z es) (cond b k (suc k))) p) f)
           by_tail true f =
               let some : keeps_before o ≡ true = ap (λ b. b && nat_lt 0 o.tail) e ∙ f in
@@ -275,20 +299,24 @@ module _ (kit : RowKit) (o : Options) (part : ℕ → Bool) (table : Targets) (e
               needs : Pair → State
               needs = needed o table (take k es)
 
-              was : keeps_before o ≡ true → nat_lt 0 o.tail ≡ true → (seen_at (kept o table (take k es) ss) c).left ≡ wanted o table (music_at (of_port z es) k) p
+              was : keeps_before o ≡ true → nat_lt 0 o.tail ≡ true → (seen_at (kept o table (take k es) ss) c).left ≡ wanted o table (music_at
+                  (of_port z es) k) p
               was some g =
                   let m : c < length ss = (let long = (kept_row row k ss is).1 in omega (arith, l, long)) in
                   let here : (seen_at ss c).pair ≡ Some p = is.places.on c m ∙ on in
                   let aimed : IsAimedPort o part table (port_at es z) = aimed_port kit o part table es z of in
                   let silent : sounds p ≡ false =
                       ap (λ n. is_member is_same_pair (pairs_on (restless o) (is_part o) table (take k es) p.part.port n) p) (taken_length)
-                      ∙ ap (λ ps. is_member is_same_pair ps p) (kit.front (restless o) (is_part o) table es p.part.port k k (omega arith) (omega (arith, there)))
+                      ∙ ap (λ ps. is_member is_same_pair ps p) (kit.front (restless o) (is_part o) table es p.part.port k k (omega arith) (omega
+                          (arith, there)))
                       ∙ ap (λ y. is_member is_same_pair (pairs_on (restless o) (is_part o) table es y k) p) (own_port c p on)
-                      ∙ subst (λ q. is_member is_same_pair (pairs_on (restless o) q table es z k) p ≡ false) is_all (kit.rests o part table (port_at es z) k p aimed (ltb-true 0 o.tail g) r gone) in
+                      ∙ subst (λ q. is_member is_same_pair (pairs_on (restless o) q table es z k) p ≡ false) is_all (kit.rests o part table
+                          (port_at es z) k p aimed (ltb-true 0 o.tail g) r gone) in
                   ap (λ b. (seen_at (cond b (map (keep sounds needs) ss) ss) c).left) some
                   ∙ ap (λ s. s.left) (get_or-map (keep sounds needs) ss c nowhere nowhere m)
                   ∙ ap (λ x. (keep_if sounds needs x (seen_at ss c)).left) here
-                  ∙ ap (λ b. (cond b (seen_at ss c) (record { pair = (seen_at ss c).pair; left = needs p; since = (seen_at ss c).since })).left) silent
+                  ∙ ap (λ b. (cond b (seen_at ss c) (record { pair = (seen_at ss c).pair; left = needs p; since = (seen_at ss c).since })).left)
+                      silent
                   ∙ needed_there kit o part table es z k p (own_port c p on) e
                 where
                   there : k < length es
@@ -297,48 +325,61 @@ module _ (kit : RowKit) (o : Options) (part : ℕ → Bool) (table : Targets) (e
                   taken_length : length (take k es) ≡ k
                   taken_length = (kit.taken es k e_ comes).1
 
-  pub row_leaves : (row : ℕ → ℕ) (k : ℕ) (e : MidiEvent) (ss : List Seen) → IsRowOf o part table es → ComesAt es k e → IsRowAt o part table es z row k ss → is_reset_at (of_port z es) (suc k) ≡ false
-      → IsRowLeft o part table es z row k (map (leave (holds_after o table (take (suc k) es)) (leaves_by o table (take (suc k) es)) (suc k)) (kept o table (take k es) ss))
+  pub row_leaves : (row : ℕ → ℕ) (k : ℕ) (e : MidiEvent) (ss : List Seen) → IsRowOf o part table es → ComesAt es k e
+      → IsRowAt o part table es z row k ss → is_reset_at (of_port z es) (suc k) ≡ false
+      → IsRowLeft o part table es z row k (map (leave (holds_after o table (take (suc k) es)) (leaves_by o table (take (suc k) es)) (suc k)) (kept
+          o table (take k es) ss))
   row_leaves row k e ss of comes is r = record {
-    places = frees kit.told sets row (from_on o part table es z row) k (kept o table (take k es) ss) (holds_after o table (take (suc k) es)) (leaves_by o table (take (suc k) es))
+    places = frees kit.told sets row (from_on o part table es z row) k (kept o table (take k es) ss) (holds_after o table (take (suc k) es))
+        (leaves_by o table (take (suc k) es))
         (none_first kit o part table es z of) (kept_row row k ss is).0 (tells row k e ss of comes is r);
     takes = subst (λ n. TakesBest sets k n (price row) row)
-        (sym (length-map (kept o table (take k es) ss) (leave (holds_after o table (take (suc k) es)) (leaves_by o table (take (suc k) es)) (suc k)) ∙ (kept_row row k ss is).1)) is.takes;
+        (sym (length-map (kept o table (take k es) ss) (leave (holds_after o table (take (suc k) es)) (leaves_by o table (take (suc k) es)) (suc
+            k)) ∙ (kept_row row k ss is).1)) is.takes;
   }
 
-  pub row_cleared : (row : ℕ → ℕ) (k : ℕ) (ss : List Seen) → IsRowOf o part table es → IsRowAt o part table es z row k ss → is_reset_at (of_port z es) (suc k) ≡ true
+  pub row_cleared : (row : ℕ → ℕ) (k : ℕ) (ss : List Seen) → IsRowOf o part table es → IsRowAt o part table es z row k ss
+      → is_reset_at (of_port z es) (suc k) ≡ true
       → IsRowAt o part table es z row (suc k) (map (clear (suc k)) (kept o table (take k es) ss))
   row_cleared row k ss of is r =
       let none : sets (suc k) ≡ [] = kit.ends o part table (port_at es z) k r in
       record {
-        places = clears kit.told sets row (from_on o part table es z row) k (kept o table (take k es) ss) (none_first kit o part table es z of) (kept_row row k ss is).0 none
+        places = clears kit.told sets row (from_on o part table es z row) k (kept o table (take k es) ss) (none_first kit o part table es z of)
+            (kept_row row k ss is).0 none
             (λ c. cleared kit o part table es z row k c r);
-        takes = subst (λ n. TakesBest sets (suc k) n (price row) row) (sym (length-map (kept o table (take k es) ss) (clear (suc k)) ∙ (kept_row row k ss is).1))
-            (none_taken sets row k (length ss) (price row) is.takes (λ p h. absurd (both_ways false refl (ap (λ ps. is_member is_same_pair ps p) (sym none) ∙ h))));
+        takes = subst (λ n. TakesBest sets (suc k) n (price row) row) (sym (length-map (kept o table (take k es) ss) (clear (suc k))
+            ∙ (kept_row row k ss is).1))
+            (none_taken sets row k (length ss) (price row) is.takes (λ p h. absurd (both_ways false refl (ap (λ ps. is_member is_same_pair ps p)
+                (sym none) ∙ h))));
       }
 
   -- what is there after an event was there before it, but for the pair that it begins
-  news : (k : ℕ) (p : Pair) (bs : List Pair) → IsRowOf o part table es → begun_at o part table (port_at es z) (suc k) ≡ bs → Has (sets (suc k)) p → Has (sets k) p ⊎ Has bs p
+  news : (k : ℕ) (p : Pair) (bs : List Pair) → IsRowOf o part table es → begun_at o part table (port_at es z) (suc k) ≡ bs → Has (sets (suc k)) p
+      → Has (sets k) p ⊎ Has bs p
   news k p bs of begun h = elim (kit.next o part table (port_at es z) (aimed_port kit o part table es z of) k p h) [
     | inl held ↦ inl (kit.was o part table (port_at es z) (aimed_port kit o part table es z of) k p held)
     | inr new ↦ inr (ap (λ ps. is_member is_same_pair ps p) (sym begun) ∙ new)
   ]
 
-  pub row_stays : (row : ℕ → ℕ) (k : ℕ) (ss : List Seen) → IsRowOf o part table es → IsRowLeft o part table es z row k ss → is_reset_at (of_port z es) (suc k) ≡ false
+  pub row_stays : (row : ℕ → ℕ) (k : ℕ) (ss : List Seen) → IsRowOf o part table es → IsRowLeft o part table es z row k ss
+      → is_reset_at (of_port z es) (suc k) ≡ false
       → begun_at o part table (port_at es z) (suc k) ≡ [] → IsRowAt o part table es z row (suc k) ss
   row_stays row k ss of left r begun =
-      let old : (p : Pair) → Has (sets (suc k)) p → Has (sets k) p = λ p h. elim (news k p [] of begun h) [ inl was ↦ was | inr new ↦ absurd (both_ways false refl new) ] in
+      let old : (p : Pair) → Has (sets (suc k)) p → Has (sets k) p = λ p h. elim (news k p [] of begun h) [ inl was ↦ was | inr new ↦ absurd
+          (both_ways false refl new) ] in
       record {
         places = none_begins kit.told sets row (from_on o part table es z row) k ss left.places old (alone kit o part table es z row k of r);
         takes = none_taken sets row k (length ss) (price row) left.takes old;
       }
 
-  pub row_goes_on : (row : ℕ → ℕ) (k : ℕ) (ss : List Seen) (p : Pair) (c : ℕ) → IsRowOf o part table es → IsRowLeft o part table es z row k ss → is_reset_at (of_port z es) (suc k) ≡ false
+  pub row_goes_on : (row : ℕ → ℕ) (k : ℕ) (ss : List Seen) (p : Pair) (c : ℕ) → IsRowOf o part table es → IsRowLeft o part table es z row k ss
+      → is_reset_at (of_port z es) (suc k) ≡ false
       → begun_at o part table (port_at es z) (suc k) ≡ p ∷ [] → (seen_at ss c).pair ≡ Some p → IsRowAt o part table es z row (suc k) ss
   row_goes_on row k ss p c of left r begun here =
       let back = stay_back (sets (suc k)) (pair_on sets row c k) p (sym (left.places.on c (seen_within ss c p here)) ∙ here) in
       let there : Has (sets k) p = (on_found kit.told (place_at sets row k) c (sets k) p back.0).0 in
-      let old : (q : Pair) → Has (sets (suc k)) q → Has (sets k) q = λ q h. elim (news k q (p ∷ []) of begun h) [ inl was ↦ was | inr new ↦ subst (Has (sets k)) (sym (one_member kit.told p q new)) there ] in
+      let old : (q : Pair) → Has (sets (suc k)) q → Has (sets k) q = λ q h. elim (news k q (p ∷ []) of begun h) [ inl was ↦ was | inr new ↦ subst
+          (Has (sets k)) (sym (one_member kit.told p q new)) there ] in
       record {
         places = none_begins kit.told sets row (from_on o part table es z row) k ss left.places old (alone kit o part table es z row k of r);
         takes = none_taken sets row k (length ss) (price row) left.takes old;
@@ -358,25 +399,32 @@ module _ (kit : RowKit) (o : Options) (part : ℕ → Bool) (table : Targets) (e
       was_not : is_member is_same_pair (sets k) p ≡ false
       was_not = false_from_ne_true (is_member is_same_pair (sets k) p) (λ h.
           let c : ℕ = place_at sets row k p in
-          let on : pair_on sets row c k ≡ Some p = on_only kit.told (place_at sets row k) c (sets k) p h refl (λ q m s. left.places.runs.apart q p m h s) in
+          let on : pair_on sets row c k ≡ Some p = on_only kit.told (place_at sets row k) c (sets k) p h refl (λ q m s. left.places.runs.apart q p
+              m h s) in
           nowhere_ c (left.places.on c (left.places.runs.within p h) ∙ ap (stay (sets (suc k))) on ∙ stay_some (sets (suc k)) p new))
 
-  pub row_takes : (row : ℕ → ℕ) (k : ℕ) (e : MidiEvent) (ss : List Seen) (p : Pair) (c : ℕ) → IsRowOf o part table es → ComesAt es k e → IsRowLeft o part table es z row k ss
-      → is_reset_at (of_port z es) (suc k) ≡ false → begun_at o part table (port_at es z) (suc k) ≡ p ∷ [] → ((d : ℕ) → (seen_at ss d).pair ≡ Some p → ⊥)
+  pub row_takes : (row : ℕ → ℕ) (k : ℕ) (e : MidiEvent) (ss : List Seen) (p : Pair) (c : ℕ) → IsRowOf o part table es → ComesAt es k e
+      → IsRowLeft o part table es z row k ss
+      → is_reset_at (of_port z es) (suc k) ≡ false → begun_at o part table (port_at es z) (suc k) ≡ p ∷ [] → ((d : ℕ)
+          → (seen_at ss d).pair ≡ Some p → ⊥)
       → IsBestSeen ss (needed o table (take (suc k) es) p) c → row (suc k) ≡ c → IsRowAt o part table es z row (suc k) (begin_on ss c p)
   row_takes row k e ss p c of comes left r begun none_has best to =
       let news_ = only_begins row k ss p of left begun none_has in
       let new = and_parts (is_member is_same_pair (sets (suc k)) p) (not (is_member is_same_pair (sets k) p)) news_.here in
       let own = kit.own o part table es z (suc k) p of.parts of.sound new.0 in
       record {
-        places = one_begins kit.told sets row (from_on o part table es z row) k ss p c left.places news_ best.within best.free to (alone kit o part table es z row k of r);
+        places = one_begins kit.told sets row (from_on o part table es z row) k ss p c left.places news_ best.within best.free to (alone kit o part
+            table es z row k of r);
         takes = subst (λ n. TakesBest sets (suc k) n (price row) row) (sym (length-set ss c (begun_on p (seen_at ss c))))
-            (best_taken kit.told sets row (from_on o part table es z row) k ss p c (needed o table (take (suc k) es) p) (price row) left.takes left.places news_ best to
+            (best_taken kit.told sets row (from_on o part table es z row) k ss p c (needed o table (take (suc k) es) p) (price row) left.takes
+                left.places news_ best to
             (λ d. costs kit o part table es z row k d p own.0));
       }
 
-  pub row_room : (row : ℕ → ℕ) (k : ℕ) (e : MidiEvent) (ss : List Seen) (p : Pair) (instant : ℕ) → IsRowOf o part table es → ComesAt es k e → IsRowLeft o part table es z row k ss
-      → begun_at o part table (port_at es z) (suc k) ≡ p ∷ [] → ((d : ℕ) → (seen_at ss d).pair ≡ Some p → ⊥) → IsNeedOf o part table es z (length ss) instant
+  pub row_room : (row : ℕ → ℕ) (k : ℕ) (e : MidiEvent) (ss : List Seen) (p : Pair) (instant : ℕ) → IsRowOf o part table es → ComesAt es k e
+      → IsRowLeft o part table es z row k ss
+      → begun_at o part table (port_at es z) (suc k) ≡ p ∷ [] → ((d : ℕ) → (seen_at ss d).pair ≡ Some p → ⊥)
+          → IsNeedOf o part table es z (length ss) instant
       → (c : ℕ) × (c < length ss) × ((seen_at ss c).pair ≡ None)
   row_room row k e ss p instant of comes left begun none_has need =
       one_free kit.told sets row (from_on o part table es z row) k ss left.places

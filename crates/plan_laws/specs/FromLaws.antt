@@ -26,18 +26,22 @@ abbrev pub member_from : PortEvents → (ℕ → List Pair) → (ℕ → ℕ) �
 member_from port at row c k = bent_by (member_bend (last_on (is_reset_at port.events) at row c k))
 
 abbrev pub MemberIsLeftAlone : Type 0
-MemberIsLeftAlone = (port : PortEvents) (at : ℕ → List Pair) (row : ℕ → ℕ) (k : ℕ) → is_reset_at port.events (suc k) ≡ false → IsLeftAlone at row (member_from port at row) k
+MemberIsLeftAlone = (port : PortEvents) (at : ℕ → List Pair) (row : ℕ → ℕ) (k : ℕ) → is_reset_at port.events (suc k) ≡ false
+    → IsLeftAlone at row (member_from port at row) k
 
 abbrev pub MemberIsCleared : Type 0
-MemberIsCleared = (port : PortEvents) (at : ℕ → List Pair) (row : ℕ → ℕ) (k c : ℕ) → is_reset_at port.events (suc k) ≡ true → at (suc k) ≡ [] → member_from port at row c (suc k) ≡ default_state
+MemberIsCleared = (port : PortEvents) (at : ℕ → List Pair) (row : ℕ → ℕ) (k c : ℕ) → is_reset_at port.events (suc k) ≡ true → at (suc k) ≡ []
+    → member_from port at row c (suc k) ≡ default_state
 
 -- a pair leaves its member with its bend
 abbrev pub MemberLeaves : Type 0
-MemberLeaves = (port : PortEvents) (at : ℕ → List Pair) (row : ℕ → ℕ) (k c : ℕ) (p : Pair) → at 0 ≡ [] → pair_on at row c k ≡ Some p → member_from port at row c k ≡ member_state p
+MemberLeaves = (port : PortEvents) (at : ℕ → List Pair) (row : ℕ → ℕ) (k c : ℕ) (p : Pair) → at 0 ≡ [] → pair_on at row c k ≡ Some p
+    → member_from port at row c k ≡ member_state p
 
 -- what it costs to bring a member to the bend of a pair
 abbrev pub MemberCosts : Type 0
-MemberCosts = (port : PortEvents) (at : ℕ → List Pair) (row : ℕ → ℕ) (k c : ℕ) (p : Pair) → member_setup port at row p c k ≡ length (bring 0 (member_from port at row c k) (member_state p))
+MemberCosts = (port : PortEvents) (at : ℕ → List Pair) (row : ℕ → ℕ) (k c : ℕ) (p : Pair)
+    → member_setup port at row p c k ≡ length (bring 0 (member_from port at row c k) (member_state p))
 
 -- ---- on bend
 
@@ -46,7 +50,8 @@ BendIsLeftAlone = (o : Options) (table : Targets) (port : PortEvents) (row : ℕ
     → IsLeftAlone (pairs_at o (is_part o) table port) row (from_state o table port row) k
 
 abbrev pub BendIsCleared : Type 0
-BendIsCleared = (o : Options) (table : Targets) (port : PortEvents) (row : ℕ → ℕ) (k c : ℕ) → is_reset_at port.events (suc k) ≡ true → from_state o table port row c (suc k) ≡ default_state
+BendIsCleared = (o : Options) (table : Targets) (port : PortEvents) (row : ℕ → ℕ) (k c : ℕ) → is_reset_at port.events (suc k) ≡ true
+    → from_state o table port row c (suc k) ≡ default_state
 
 -- a pair leaves its channel as it needs it right after the event, or, where it rested, right before
 abbrev pub BendLeaves : Type 0
@@ -57,7 +62,8 @@ BendLeaves = (o : Options) (table : Targets) (port : PortEvents) (row : ℕ → 
 
 -- where notes rest, a pair that leaves doesn't sound
 abbrev pub RestsBeforeItLeaves : Type 0
-RestsBeforeItLeaves = (o : Options) (part : ℕ → Bool) (table : Targets) (port : PortEvents) (k : ℕ) (p : Pair) → IsAimedPort o part table port → 0 < o.tail
+RestsBeforeItLeaves = (o : Options) (part : ℕ → Bool) (table : Targets) (port : PortEvents) (k : ℕ) (p : Pair) → IsAimedPort o part table port
+    → 0 < o.tail
     → is_reset_at port.events (suc k) ≡ false → is_member is_same_pair (pairs_at o part table port (suc k)) p ≡ false
     → is_member is_same_pair (pairs_at (restless o) part table port k) p ≡ false
 

@@ -2,3 +2,4 @@ pub mod Placing
 pub mod PlacingLaws
 pub mod FromLaws
 pub mod Counting
+pub mod Rows

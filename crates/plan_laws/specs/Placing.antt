@@ -72,8 +72,11 @@ abbrev pub clear : ℕ → Seen → Seen
 clear k s = record { pair = None; left = default_state; since = if is_some s.pair then k else s.since }
 
 -- a run of a pair begins on a place
+abbrev pub begun_on : Pair → Seen → Seen
+begun_on p s = record { pair = Some p; left = s.left; since = s.since }
+
 abbrev pub begin_on : List Seen → ℕ → Pair → List Seen
-begin_on ss c p = set ss c (record { pair = Some p; left = (seen_at ss c).left; since = (seen_at ss c).since })
+begin_on ss c p = set ss c (begun_on p (seen_at ss c))
 
 -- of the places that are free, one with the shortest setup, among equals the one that is free for longest, then the first
 pub record IsBestSeen (ss : List Seen) (wanted : State) (c : ℕ) : Type 0 where

@@ -13,24 +13,29 @@ abbrev pub AllAreNowhere : List Seen → Type 0
 AllAreNowhere ss = (c : ℕ) → seen_at ss c ≡ nowhere
 
 abbrev pub NoneAtFirst : Type 0
-NoneAtFirst = (at : ℕ → List Pair) (row : ℕ → ℕ) (from : ℕ → ℕ → State) (ss : List Seen) → at 0 ≡ [] → ((c : ℕ) → from c 0 ≡ default_state) → AllAreNowhere ss
+NoneAtFirst = (at : ℕ → List Pair) (row : ℕ → ℕ) (from : ℕ → ℕ → State) (ss : List Seen) → at 0 ≡ [] → ((c : ℕ) → from c 0 ≡ default_state)
+    → AllAreNowhere ss
     → HasPlaces at row from 0 ss
 
 -- what is asked of the pairs that are on a row: which stay, and in which state the others leave
-pub record TellsLeaving (at : ℕ → List Pair) (row : ℕ → ℕ) (from : ℕ → ℕ → State) (k : ℕ) (ss : List Seen) (holds : Pair → Bool) (leaves : Pair → Option State) : Type 0 where
+pub record TellsLeaving (at : ℕ → List Pair) (row : ℕ → ℕ) (from : ℕ → ℕ → State) (k : ℕ) (ss : List Seen) (holds : Pair → Bool) (leaves : Pair
+    → Option State) : Type 0 where
   pub stays : (p : Pair) → Has (at k) p → holds p ≡ is_member is_same_pair (at (suc k)) p
   pub left : (c : ℕ) (p : Pair) → c < length ss → pair_on at row c k ≡ Some p → is_member is_same_pair (at (suc k)) p ≡ false
       → or_kept (seen_at ss c).left (leaves p) ≡ from c k
 
 -- the places of pairs that an event ends are freed
 abbrev pub LeavingFrees : Type 0
-LeavingFrees = (at : ℕ → List Pair) (row : ℕ → ℕ) (from : ℕ → ℕ → State) (k : ℕ) (ss : List Seen) (holds : Pair → Bool) (leaves : Pair → Option State)
-    → at 0 ≡ [] → HasPlaces at row from k ss → TellsLeaving at row from k ss holds leaves → HasLeft at row from k (map (leave holds leaves (suc k)) ss)
+LeavingFrees = (at : ℕ → List Pair) (row : ℕ → ℕ) (from : ℕ → ℕ → State) (k : ℕ) (ss : List Seen) (holds : Pair → Bool) (leaves : Pair
+    → Option State)
+    → at 0 ≡ [] → HasPlaces at row from k ss → TellsLeaving at row from k ss holds leaves
+        → HasLeft at row from k (map (leave holds leaves (suc k)) ss)
 
 -- a reset frees all
 abbrev pub ClearingFrees : Type 0
 ClearingFrees = (at : ℕ → List Pair) (row : ℕ → ℕ) (from : ℕ → ℕ → State) (k : ℕ) (ss : List Seen)
-    → at 0 ≡ [] → HasPlaces at row from k ss → at (suc k) ≡ [] → ((c : ℕ) → from c (suc k) ≡ default_state) → HasPlaces at row from (suc k) (map (clear (suc k)) ss)
+    → at 0 ≡ [] → HasPlaces at row from k ss → at (suc k) ≡ [] → ((c : ℕ) → from c (suc k) ≡ default_state)
+        → HasPlaces at row from (suc k) (map (clear (suc k)) ss)
 
 -- a place that stays free is left as it was
 abbrev pub IsLeftAlone : (ℕ → List Pair) → (ℕ → ℕ) → (ℕ → ℕ → State) → ℕ → Type 0
@@ -54,7 +59,8 @@ OneBeginsOn = (at : ℕ → List Pair) (row : ℕ → ℕ) (from : ℕ → ℕ �
 
 -- of n places the best is taken, for a run of the pair p, where it begins
 abbrev pub BestIsTaken : Type 0
-BestIsTaken = (at : ℕ → List Pair) (row : ℕ → ℕ) (from : ℕ → ℕ → State) (k : ℕ) (ss : List Seen) (p : Pair) (c : ℕ) (wanted : State) (cost : Pair → ℕ → ℕ → ℕ)
+BestIsTaken = (at : ℕ → List Pair) (row : ℕ → ℕ) (from : ℕ → ℕ → State) (k : ℕ) (ss : List Seen) (p : Pair) (c : ℕ) (wanted : State) (cost : Pair
+    → ℕ → ℕ → ℕ)
     → TakesBest at k (length ss) cost row → HasLeft at row from k ss → OnlyBegins at k p → IsBestSeen ss wanted c → row (suc k) ≡ c
     → ((d : ℕ) → cost p d k ≡ length (bring 0 (from d k) wanted))
     → TakesBest at (suc k) (length ss) cost row
