@@ -1,11 +1,12 @@
 -- The pairs of a port after an event, by those before it.
 use Rattle.std.proofs.Common.{◌≡◌, ◌≤◌, ◌<◌, ◌∙◌, ℕ, zero, suc, List, [], ◌∷◌, ◌++◌, Bool, true, false, ◌&&◌, ◌||◌, length, refl, sym, ap, arith, filter, take, inl, inr}
 use Rattle.std.specs.Prelude.{◌⊎◌}
+use Rattle.std.specs.List.{AllByRecursion}
 use Rattle.std.specs.Set.{is_member}
 use Rattle.std.proofs.lemmas.Bool.{or_cases, or_left, or_right, and_parts, and_from}
 use Rattle.mt_base.specs.Midi.{MidiEvent}
 use Rattle.retune_model.specs.Options.{Options}
-use Rattle.retune_model.specs.Ports.{PortEvents}
+use Rattle.retune_model.specs.Ports.{PortEvents, Numbered, with_event}
 use Rattle.retune_model.specs.Faults.{Targets, is_part}
 use Rattle.retune_model.specs.Pairs.{Pair, is_same_pair}
 use Rattle.retune_model.specs.Rests.{pairs_at, begun_at, IsAimedPort}
@@ -142,3 +143,15 @@ module _ (L : Laws) (o : Options) (part : ℕ → Bool) (table : Targets) (port 
             let all = has_all k p two.0 in
             has_own (suc k) p (sym (told p (of_port k p all.0)) ∙ two.1) all.1
       ]
+
+-- ---- the event that comes
+
+-- what is so of each event of a port, is so of the last of a list, where it is of the port
+pub last_of : (P : Numbered → Type 0) (xs : List Numbered) (n : Numbered) → AllByRecursion P (xs ++ n ∷ []) → P n
+last_of P [] n h = h.0
+last_of P (x ∷ xs) n h = last_of P xs n h.1
+
+-- an event is of its own port
+pub own_event : (b : Bool) → b ≡ true → (n : Numbered) → with_event b n [] ≡ n ∷ []
+own_event true e n = refl
+own_event false e n = absurd cc

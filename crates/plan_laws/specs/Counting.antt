@@ -1,13 +1,13 @@
 -- The pairs of a port from one position of a source to the next, as counting them goes: those that still hold, and the one that begins.
-use Rattle.std.specs.Prelude.{◌≡◌, ◌<◌, ◌≤◌, ◌++◌, ℕ, suc, Bool, true, List, [], ◌∷◌, Some, filter, length, take, drop}
+use Rattle.std.specs.Prelude.{◌≡◌, ◌<◌, ◌≤◌, ◌++◌, ℕ, suc, Bool, true, List, [], ◌∷◌, Some, filter, length, take, drop, nat_eq, if◌then◌else◌}
 use Rattle.std.specs.Set.{is_member}
 use Rattle.mt_base.specs.Midi.{MidiEvent}
 use Rattle.midi_model.specs.Order.{AreInOrder}
 use Rattle.retune_model.specs.Options.{Options}
-use Rattle.retune_model.specs.Ports.{tick_to, of_port, music_at, is_reset_at, port_at}
+use Rattle.retune_model.specs.Ports.{tick_to, port_of, all_zero, ports_from, of_port, music_at, is_reset_at, port_at}
 use Rattle.retune_model.specs.Faults.{Targets, is_part}
 use Rattle.retune_model.specs.Pairs.{Pair, is_same_pair, with_pair}
-use Rattle.retune_model.specs.Rests.{begun_at}
+use Rattle.retune_model.specs.Rests.{begun_pair, begun_at, is_aimed}
 use Rattle.retune_model.specs.PortNeed.{AreParts, pairs_on, held_on}
 use Rattle.retune_model.specs.SourceFaults.{Fault, fault_at, first_fault, IsFaultless, IsSound}
 
@@ -54,6 +54,16 @@ PairsGoOn = (o : Options) (part : ℕ → Bool) (table : Targets) (es : List Mid
     IsSound o table (take (suc k) es) →
     pairs_on o part table es z (suc k)
     ≡ with_each (begun_at o part table (port_at es z) (suc k)) (filter (holds_after o table (take (suc k) es)) (pairs_on o part table es z k))
+
+-- the pair that it begins is that of its note on, on the port that its track has; and a note on that counts has a target
+abbrev pub BegunIsOfEvent : Type 0
+BegunIsOfEvent = (o : Options) (part : ℕ → Bool) (table : Targets) (es : List MidiEvent) (z k : ℕ) (e : MidiEvent) → ComesAt es k e →
+    begun_at o part table (port_at es z) (suc k)
+    ≡ (if nat_eq (port_of (ports_from all_zero (take k es)) e) z then begun_pair z o part table e.tick e.what else [])
+
+abbrev pub EventIsAimed : Type 0
+EventIsAimed = (o : Options) (part : ℕ → Bool) (table : Targets) (es : List MidiEvent) (k : ℕ) (e : MidiEvent) → AreParts o part → ComesAt es k e →
+    IsSound o table (take (suc k) es) → is_aimed o part table e.tick e.what ≡ true
 
 -- what holds after the events up to a position, is there at it
 abbrev pub HoldingIsThere : Type 0
