@@ -24,7 +24,7 @@ one_done f xs places i d x l same done e =
     map-set seen places i x
     ∙ ap (set (all_seen places) i) (e ∙ ap f (sym (seen_there places i d l)))
     ∙ map_over_more f xs (all_seen places) i (seen_at (all_seen places) i) (omega (arith, l, same)) done
-      (let long = length-map places seen in get_or_any (all_seen places) i nowhere (omega (arith, l, long)))
+    (let long = length-map places seen in get_or_any (all_seen places) i nowhere (omega (arith, l, long)))
   where
     get_or_any : (ys : List Seen) (j : ℕ) (y : Seen) → j < length ys → get_or ys j y ≡ get_or ys j (get_or ys j y)
     get_or_any [] j y m = refl

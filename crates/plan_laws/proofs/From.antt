@@ -78,7 +78,7 @@ pub bend_cleared : ResetsEndAll → (o : Options) (table : Targets) (port : Port
     → is_reset_at port.events (suc k) ≡ true → from_state o table port row c (suc k) ≡ default_state
 bend_cleared ends o table port row k c r =
     ap (left_by o table port) (last_gone (is_reset_at port.events) (sets o table port) row c k r (ap (on_place (place_at (sets o table port) row
-        (suc k)) c) (ends o (is_part o) table port k r)))
+    (suc k)) c) (ends o (is_part o) table port k r)))
 
 -- ---- what is held goes on holding, where notes rest
 
@@ -101,7 +101,7 @@ latest_within told z o table p tail t (suc c) (n ∷ ns) (suc i) l m e h = lates
     (arith, m)) e h
 latest_within told z o table p tail t zero (n ∷ ns) zero l m e h =
     subst (λ b. is_within_tail tail t (cond b (later_end n.ended (latest_end z o table p ns)) (latest_end z o table p ns)) ≡ true) (sym ((told
-        (pair_of z o table n) p).1 e))
+    (pair_of z o table n) p).1 e))
     (later_within tail t n.ended (latest_end z o table p ns) (inl h))
 latest_within told z o table p tail t zero (n ∷ ns) (suc i) l m e h =
     pick (is_same_pair (pair_of z o table n) p) (latest_within told z o table p tail t zero ns i (omega arith) (omega (arith, m)) e h)
@@ -128,14 +128,17 @@ sounding_holds kit o part table port k i timed rests no_reset there s = pick (so
   where
     pick : (b : Bool) → sounds (get_or (notes_at part port.events (suc k)) i nobody) ≡ b → holds_at part o.tail port (suc k) i ≡ true
     pick true e = (kit.written part o.tail port timed (suc k) i).1 (inl (there, e))
-    pick false e = (kit.written part o.tail port timed (suc k) i).1 (inr (k, record {
-      by = omega arith;
-      begun = s.0;
-      sounded = s.1;
-      silent = e;
-      no_reset = λ l a b. (let same : l ≡ k = omega (arith, a, b) in ap (λ j. is_reset_at port.events (suc j)) same ∙ no_reset);
-      in_time = omega (arith, rests);
-    }))
+    pick false e = (kit.written part o.tail port timed (suc k) i).1 (inr (
+      k,
+      record {
+        by = omega arith;
+        begun = s.0;
+        sounded = s.1;
+        silent = e;
+        no_reset = λ l a b. (let same : l ≡ k = omega (arith, a, b) in ap (λ j. is_reset_at port.events (suc j)) same ∙ no_reset);
+        in_time = omega (arith, rests);
+      },
+    ))
 
 -- where notes don't rest, those that hold sound
 restless_sounds : RestKit → (part : ℕ → Bool) (port : PortEvents) (k i : ℕ) → AreTimed port → holds_at part 0 port k i ≡ true
@@ -165,7 +168,7 @@ held_holds kit o part table port k p aimed rests no_reset h = pick (is_member is
         let each = (kit.notes (restless o) part table port (suc k) restless_aimed).each k p (omega arith) e in
         let s = restless_sounds kit part port k each.0 aimed.timed each.2 in
         let there = (kit.notes o part table port (suc k) aimed).all (suc k) each.0 (omega arith) each.1 (sounding_holds kit o part table port k
-            each.0 aimed.timed rests no_reset each.1 s) in
+        each.0 aimed.timed rests no_reset each.1 s) in
         subst (Has (pairs_at o part table port (suc k))) each.3 there
     pick false e =
         let x = (kit.held o part table port aimed k p).0 h in
@@ -173,10 +176,10 @@ held_holds kit o part table port k p aimed rests no_reset h = pick (is_member is
           | inl s ↦ (let there = (kit.notes (restless o) part table port k restless_aimed).all k x.0 (omega arith) x.1.begun ((kit.written part 0
               port aimed.timed k x.0).1 (inl (x.1.begun, s))) in
               absurd (both_ways (is_member is_same_pair (pairs_at (restless o) part table port k) p) e (subst (Has (pairs_at (restless o) part
-                  table port k)) x.2 there)))
+              table port k)) x.2 there)))
           | inr r ↦ (let past = and_parts (nat_le (past_at part port.events k) x.0) _ r.0 in
               latest_within kit.told port.number o table p o.tail (port.tick (suc k)) (past_at part port.events k) (notes_at part port.events k)
-                  x.0 (leb-true (past_at part port.events k) x.0 past.0) x.1.begun x.2
+              x.0 (leb-true (past_at part port.events k) x.0 past.0) x.1.begun x.2
               (ap (is_within_tail o.tail (port.tick (suc k))) r.1.1 ∙ lt-ltb (port.tick (suc k)) (r.1.0 + o.tail) r.1.2))
         ] in
         kit.tell o part table port aimed (suc k) p ∙ or_right (is_member is_same_pair (pairs_at (restless o) part table port (suc k)) p) _
@@ -197,7 +200,7 @@ rests_before kit o part table port k p aimed rests no_reset gone = false_from_ne
     let each = (kit.notes (restless o) part table port (suc k) (record { timed = aimed.timed; aimed = aimed.aimed })).each k p (omega arith) e in
     let s = restless_sounds kit part port k each.0 aimed.timed each.2 in
     let there = (kit.notes o part table port (suc k) aimed).all (suc k) each.0 (omega arith) each.1 (sounding_holds kit o part table port k each.0
-        aimed.timed rests no_reset each.1 s) in
+    aimed.timed rests no_reset each.1 s) in
     both_ways (is_member is_same_pair (pairs_at o part table port (suc k)) p) gone (subst (Has (pairs_at o part table port (suc k))) each.3 there))
 
 -- without rests what is there is held at the next event
@@ -207,7 +210,7 @@ held_without law o table port k p timed none h =
     let same : restless o ≡ o = ap (λ t. record o { tail = t }) (sym none) in
     subst (λ x. Has (held_at x (is_part x) table port (suc k)) p) same
     (subst (λ ps. Has ps p) (sym (law (restless o) (is_part (restless o)) table port timed k)) (subst (λ x. Has (pairs_at x (is_part x) table port
-        k) p) (sym same) h))
+    k) p) (sym same) h))
 
 pub bend_leaves : RestKit → HeldIsThere → OneRunBegins → (o : Options) (table : Targets) (port : PortEvents) (row : ℕ → ℕ) (k c : ℕ) (p : Pair)
     → IsAimedPort o (is_part o) table port
@@ -221,12 +224,15 @@ bend_leaves kit there runs o table port row k c p aimed no_reset on gone =
     pick : (b : Bool) → nat_lt 0 o.tail ≡ b → held_until (held_at o (is_part o) table port) k p ≡ cond b k (suc k)
     pick true e =
         let no : is_member is_same_pair (held_at o (is_part o) table port (suc k)) p ≡ false = false_from_ne_true (is_member is_same_pair (held_at
-            o (is_part o) table port (suc k)) p)
-            (λ h. both_ways (is_member is_same_pair (sets o table port (suc k)) p) gone (held_holds kit o (is_part o) table port k p aimed
-                (ltb-true 0 o.tail e) no_reset h)) in
+        o (is_part o) table port (suc k)) p)
+        (λ h. both_ways (is_member is_same_pair (sets o table port (suc k)) p) gone (held_holds kit o (is_part o) table port k p aimed
+        (ltb-true 0 o.tail e) no_reset h)) in
         ap (λ b. cond b (suc k) k) no
     pick false e =
-        let none : o.tail ≡ 0 = elim (cases_lt 0 o.tail) [ inl l ↦ absurd (both_ways (nat_lt 0 o.tail) e (lt-ltb 0 o.tail l)) | inr l ↦ omega
-            (arith, l) ] in
+        let none : o.tail ≡ 0 = elim (cases_lt 0 o.tail) [
+          | inl l ↦ absurd (both_ways (nat_lt 0 o.tail) e (lt-ltb 0 o.tail l))
+          | inr l ↦ omega
+              (arith, l)
+        ] in
         let m = (on_found kit.told (place_at (sets o table port) row k) c (sets o table port k) p on).0 in
         ap (λ b. cond b (suc k) k) (held_without there o table port k p aimed.timed none m)

@@ -52,8 +52,17 @@ pub record Laws : Type 0 where
 
 pub laws : HeldWasThere → HeldOrBegun → BegunIsThere → PartsWithin → PairsAreOfNotes → PairsAreOrdered → OrderedAreTheSame → WithOneMore → ThatPass → HasOneMore → HasThatPass → Laws
 laws within next begun some notes ordered same more pass has_more has_pass = record {
-  within = within; next = next; begun = begun; some = some; notes = notes; ordered = ordered;
-  same = same; more = more; pass = pass; has_more = has_more; has_pass = has_pass;
+  within = within;
+  next = next;
+  begun = begun;
+  some = some;
+  notes = notes;
+  ordered = ordered;
+  same = same;
+  more = more;
+  pass = pass;
+  has_more = has_more;
+  has_pass = has_pass;
 }
 
 abbrev Has : List Pair → Pair → Type 0

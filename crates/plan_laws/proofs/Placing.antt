@@ -96,7 +96,7 @@ stays_on told at row n k c runs old = pick (pair_on at row c k) refl
             ∙ sym (stay_some (at (suc k)) p h)
         by_it false h =
             on_empty told (place_at at row (suc k)) c (at (suc k)) (λ q m s. both_ways (is_member is_same_pair (at (suc k)) p) h (subst (Has (at
-                (suc k))) (same q m s) m))
+            (suc k))) (same q m s) m))
             ∙ sym (stay_gone (at (suc k)) p h)
 
 -- ---- at first
@@ -124,7 +124,7 @@ taken_then at row c (suc k) p none h = ap (λ x. cond (is_taken x) (suc (suc k))
 pub frees : PairsAreTold → (at : ℕ → List Pair) (row : ℕ → ℕ) (from : ℕ → ℕ → State) (k : ℕ) (ss : List Seen) (holds : Pair
     → Bool) (leaves : Pair → Option State)
     → at 0 ≡ [] → HasPlaces at row from k ss → TellsLeaving at row from k ss holds leaves
-        → HasLeft at row from k (map (leave holds leaves (suc k)) ss)
+    → HasLeft at row from k (map (leave holds leaves (suc k)) ss)
 frees told at row from k ss holds leaves none has tells = record {
   runs = subst (λ n. AreApart at row n k) (sym long) has.runs;
   on = λ c l. (one c (shorter c l)).0;
@@ -159,17 +159,28 @@ frees told at row from k ss holds leaves none has tells = record {
             there = (on_found told (place_at at row k) c (at k) p here).0
 
             by_it : (b : Bool) → is_member is_same_pair (at (suc k)) p ≡ b → Freed c (leave_if holds leaves (suc k) (Some p) (seen_at ss c))
-            by_it true h = subst (λ b. Freed c (cond b (seen_at ss c) (record { pair = None; left = or_kept (seen_at ss c).left (leaves p); since =
-                suc k }))) (sym (tells.stays p there ∙ h))
+            by_it true h = subst (λ b. Freed c (cond b (seen_at ss c) (record {
+              pair = None;
+              left = or_kept (seen_at ss c).left (leaves p);
+              since =
+                  suc k;
+            }))) (sym (tells.stays p there ∙ h))
                 (e ∙ sym (ap (stay (at (suc k))) here ∙ stay_some (at (suc k)) p h), (λ g. has.since c l g), (λ g. has.left c l g))
-            by_it false h = subst (λ b. Freed c (cond b (seen_at ss c) (record { pair = None; left = or_kept (seen_at ss c).left (leaves p); since
-                = suc k }))) (sym (tells.stays p there ∙ h))
-                (sym (ap (stay (at (suc k))) here ∙ stay_gone (at (suc k)) p h), (λ g. sym (taken_then at row c k p none here)), (λ g. tells.left c
-                    p l here h))
+            by_it false h = subst (λ b. Freed c (cond b (seen_at ss c) (record {
+              pair = None;
+              left = or_kept (seen_at ss c).left (leaves p);
+              since
+                  = suc k;
+            }))) (sym (tells.stays p there ∙ h)) (
+              sym (ap (stay (at (suc k))) here ∙ stay_gone (at (suc k)) p h),
+              (λ g. sym (taken_then at row c k p none here)),
+              (λ g. tells.left c
+                  p l here h),
+            )
 
 pub clears : PairsAreTold → (at : ℕ → List Pair) (row : ℕ → ℕ) (from : ℕ → ℕ → State) (k : ℕ) (ss : List Seen)
     → at 0 ≡ [] → HasPlaces at row from k ss → at (suc k) ≡ [] → ((c : ℕ) → from c (suc k) ≡ default_state)
-        → HasPlaces at row from (suc k) (map (clear (suc k)) ss)
+    → HasPlaces at row from (suc k) (map (clear (suc k)) ss)
 clears told at row from k ss none has empty first = record {
   runs = record { within = λ p h. absurd (none_there (at (suc k)) p empty h); apart = λ p q h g e. absurd (none_there (at (suc k)) p empty h) };
   on = λ c l. ap (λ s. s.pair) (at_it c (shorter c l)) ∙ sym (nothing c);
@@ -220,8 +231,11 @@ none_begins told at row from k ss left old alone = record {
 -- a run begins where its pair was not
 new_there : (at : ℕ → List Pair) (k : ℕ) (p : Pair) → begins is_same_pair at k p ≡ true
     → Has (at (suc k)) p × (is_member is_same_pair (at k) p ≡ false)
-new_there at k p h = let two = and_parts (is_member is_same_pair (at (suc k)) p) (not (is_member is_same_pair (at k) p)) h in (two.0, pick
-    (is_member is_same_pair (at k) p) two.1)
+new_there at k p h = let two = and_parts (is_member is_same_pair (at (suc k)) p) (not (is_member is_same_pair (at k) p)) h in (
+  two.0,
+  pick
+      (is_member is_same_pair (at k) p) two.1,
+)
   where
     pick : (b : Bool) → not b ≡ true → b ≡ false
     pick true e = absurd cc
@@ -292,7 +306,7 @@ one_begins told at row from k ss p c left news l free to alone = record {
     on d m = elim (cases_eq d c) [
       | inl e ↦ ap (λ x. (seen_at (begin_on ss c p) x).pair) e ∙ ap (λ s. s.pair) (get_or-set_same ss c put nowhere l)
           ∙ sym (ap (λ x. pair_on at row x (suc k)) e ∙ on_only told (place_at at row (suc k)) c (at (suc k)) p new.0 its (λ q n s. apart q p n
-              new.0 (s ∙ sym its)))
+          new.0 (s ∙ sym its)))
       | inr n ↦ ap (λ s. s.pair) (get_or-set_other ss c d put nowhere n) ∙ left.on d (omega (arith, m, long)) ∙ sym (stays d n)
     ]
 
@@ -307,9 +321,11 @@ one_begins told at row from k ss p c left news l free to alone = record {
           let as_was = get_or-set_other ss c d put nowhere n in
           let o : d < length ss = omega (arith, m, long) in
           let was : (seen_at ss d).pair ≡ None = sym (ap (λ s. s.pair) as_was) ∙ h in
-          let now : pair_on at row d (suc k) ≡ None = stays d n ∙ sym (left.on d o) ∙ was in
-          (ap (λ s. s.since) as_was ∙ left.since d o was ∙ sym (still_free at row d k now), ap (λ s. s.left) as_was ∙ left.left d o was
-              ∙ sym (alone d now))
+          let now : pair_on at row d (suc k) ≡ None = stays d n ∙ sym (left.on d o) ∙ was in (
+            ap (λ s. s.since) as_was ∙ left.since d o was ∙ sym (still_free at row d k now),
+            ap (λ s. s.left) as_was ∙ left.left d o was
+                ∙ sym (alone d now),
+          )
     ]
 
 -- ---- the choice
@@ -382,15 +398,18 @@ best_taken told at row from k ss p c wanted cost takes left news chosen to costs
         let same : q ≡ p = elim (news.only q new.0) [ inl h ↦ absurd (both_ways (is_member is_same_pair (at k) q) new.1 h) | inr e ↦ e ] in
         let free : (seen_at ss d).pair ≡ None = left.on d m ∙ free_then told at row k d f in
         let price = λ (i : ℕ) (l : i < length ss) (g : (seen_at ss i).pair ≡ None). ap (λ x. cost x i k) same ∙ costs i
-            ∙ ap (λ s. length (bring 0 s wanted)) (sym (left.left i l g)) in
+        ∙ ap (λ s. length (bring 0 s wanted)) (sym (left.left i l g)) in
         let cc_ : cost q c k ≡ length (bring 0 (seen_at ss c).left wanted) = price c chosen.within chosen.free in
         let cd : cost q d k ≡ length (bring 0 (seen_at ss d).left wanted) = price d m free in
         let sc : (seen_at ss c).since ≡ free_since at row c k = left.since c chosen.within chosen.free in
         let sd : (seen_at ss d).since ≡ free_since at row d k = left.since d m free in
         elim (chosen.best d m free) [
           | inl less ↦ inl (omega (arith, less, cc_, cd))
-          | inr same_cost ↦ inr (cc_ ∙ same_cost.0 ∙ sym cd, elim same_cost.1 [
-            | inl longer ↦ inl (omega (arith, longer, sc, sd))
-            | inr equal ↦ inr (sym sc ∙ equal.0 ∙ sd, equal.1)
-          ])
+          | inr same_cost ↦ inr (
+            cc_ ∙ same_cost.0 ∙ sym cd,
+            elim same_cost.1 [
+              | inl longer ↦ inl (omega (arith, longer, sc, sd))
+              | inr equal ↦ inr (sym sc ∙ equal.0 ∙ sd, equal.1)
+            ],
+          )
         ]

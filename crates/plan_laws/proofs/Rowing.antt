@@ -141,8 +141,12 @@ keep_same : (sounds : Pair → Bool) (needs : Pair → State) (x : Option Pair) 
 keep_same sounds needs None s = (refl, refl)
 keep_same sounds needs (Some p) s = pick (sounds p)
   where
-    pick : (b : Bool) → ((cond b s (record { pair = s.pair; left = needs p; since = s.since })).pair ≡ s.pair) × ((cond b s (record { pair =
-        s.pair; left = needs p; since = s.since })).since ≡ s.since)
+    pick : (b : Bool) → ((cond b s (record { pair = s.pair; left = needs p; since = s.since })).pair ≡ s.pair) × ((cond b s (record {
+      pair =
+          s.pair;
+      left = needs p;
+      since = s.since;
+    })).since ≡ s.since)
     pick true = (refl, refl)
     pick false = (refl, refl)
 
@@ -212,8 +216,12 @@ module _ (kit : RowKit) (o : Options) (part : ℕ → Bool) (table : Targets) (e
   row_first row ss of nothing = record {
     places = at_first sets row (from_on o part table es z row) ss (none_first kit o part table es z of) (from_first kit o part table es z row)
         nothing;
-    takes = record { within = λ k p l b. absurd (omega (arith, l)); free = λ k p l b. absurd (omega (arith, l)); best = λ k p c l b. absurd (omega
-        (arith, l)) };
+    takes = record {
+      within = λ k p l b. absurd (omega (arith, l));
+      free = λ k p l b. absurd (omega (arith, l));
+      best = λ k p c l b. absurd (omega
+          (arith, l));
+    };
   }
 
   -- before an event what is kept of places changes in their states alone
@@ -244,7 +252,7 @@ module _ (kit : RowKit) (o : Options) (part : ℕ → Bool) (table : Targets) (e
   tells : (row : ℕ → ℕ) (k : ℕ) (e : MidiEvent) (ss : List Seen) → IsRowOf o part table es → ComesAt es k e → IsRowAt o part table es z row k ss
       → is_reset_at (of_port z es) (suc k) ≡ false
       → TellsLeaving sets row (from_on o part table es z row) k (kept o table (take k es) ss) (holds_after o table (take (suc k) es)) (leaves_by o
-          table (take (suc k) es))
+      table (take (suc k) es))
   tells row k e_ ss of comes is r = record {
     stays = λ p h.
         let own = kit.own o part table es z k p of.parts of.sound h in
@@ -266,9 +274,9 @@ module _ (kit : RowKit) (o : Options) (part : ℕ → Bool) (table : Targets) (e
       by_route c p l on gone false e =
           let none : keeps_before o ≡ false = ap (λ b. b && nat_lt 0 o.tail) e in
           ap (or_kept (seen_at (kept o table (take k es) ss) c).left) (leave_by o table (take (suc k) es) p none
-              ∙ ap Some (needed_member kit o part table es z (take (suc k) es) p e))
+          ∙ ap Some (needed_member kit o part table es z (take (suc k) es) p e))
           ∙ sym (from_member kit o part table es z row c k e ∙ kit.member_leaves (port_at es z) sets row k c p (none_first kit o part table es z
-              of) on)
+          of) on)
       by_route c p l on gone true e = by_tail (nat_lt 0 o.tail) refl
         where
           is_all : part ≡ is_part o
@@ -277,15 +285,15 @@ module _ (kit : RowKit) (o : Options) (part : ℕ → Bool) (table : Targets) (e
           left : from_on o part table es z row c k ≡ wanted o table (music_at (of_port z es) (cond (nat_lt 0 o.tail) k (suc k))) p
           left = from_bend kit o part table es z row c k e
               ∙ kit.leaves o table (port_at es z) row k c p (subst (λ q. IsAimedPort o q table (port_at es z)) is_all (aimed_port kit o part table
-                  es z of)) r
-                (subst (λ q. pair_on (pairs_on o q table es z) row c k ≡ Some p) is_all on)
-                (subst (λ q. is_member is_same_pair (pairs_on o q table es z (suc k)) p ≡ false) is_all gone)
+              es z of)) r
+              (subst (λ q. pair_on (pairs_on o q table es z) row c k ≡ Some p) is_all on)
+              (subst (λ q. is_member is_same_pair (pairs_on o q table es z (suc k)) p ≡ false) is_all gone)
 
           by_tail : (t : Bool) → nat_lt 0 o.tail ≡ t → From c p (seen_at (kept o table (take k es) ss) c).left
           by_tail false f =
               let none : keeps_before o ≡ false = ap (λ b. b && nat_lt 0 o.tail) e ∙ f in
               ap (or_kept (seen_at (kept o table (take k es) ss) c).left) (leave_by o table (take (suc k) es) p none
-                  ∙ ap Some (needed_there kit o part table es z (suc k) p (own_port c p on) e))
+              ∙ ap Some (needed_there kit o part table es z (suc k) p (own_port c p on) e))
               ∙ sym (left ∙ ap (λ b. wanted o table (music_at (of_port z es) (cond b k (suc k))) p) f)
           by_tail true f =
               let some : keeps_before o ≡ true = ap (λ b. b && nat_lt 0 o.tail) e ∙ f in
@@ -306,17 +314,17 @@ module _ (kit : RowKit) (o : Options) (part : ℕ → Bool) (table : Targets) (e
                   let here : (seen_at ss c).pair ≡ Some p = is.places.on c m ∙ on in
                   let aimed : IsAimedPort o part table (port_at es z) = aimed_port kit o part table es z of in
                   let silent : sounds p ≡ false =
-                      ap (λ n. is_member is_same_pair (pairs_on (restless o) (is_part o) table (take k es) p.part.port n) p) (taken_length)
-                      ∙ ap (λ ps. is_member is_same_pair ps p) (kit.front (restless o) (is_part o) table es p.part.port k k (omega arith) (omega
-                          (arith, there)))
-                      ∙ ap (λ y. is_member is_same_pair (pairs_on (restless o) (is_part o) table es y k) p) (own_port c p on)
-                      ∙ subst (λ q. is_member is_same_pair (pairs_on (restless o) q table es z k) p ≡ false) is_all (kit.rests o part table
-                          (port_at es z) k p aimed (ltb-true 0 o.tail g) r gone) in
+                  ap (λ n. is_member is_same_pair (pairs_on (restless o) (is_part o) table (take k es) p.part.port n) p) (taken_length)
+                  ∙ ap (λ ps. is_member is_same_pair ps p) (kit.front (restless o) (is_part o) table es p.part.port k k (omega arith) (omega
+                  (arith, there)))
+                  ∙ ap (λ y. is_member is_same_pair (pairs_on (restless o) (is_part o) table es y k) p) (own_port c p on)
+                  ∙ subst (λ q. is_member is_same_pair (pairs_on (restless o) q table es z k) p ≡ false) is_all (kit.rests o part table
+                  (port_at es z) k p aimed (ltb-true 0 o.tail g) r gone) in
                   ap (λ b. (seen_at (cond b (map (keep sounds needs) ss) ss) c).left) some
                   ∙ ap (λ s. s.left) (get_or-map (keep sounds needs) ss c nowhere nowhere m)
                   ∙ ap (λ x. (keep_if sounds needs x (seen_at ss c)).left) here
                   ∙ ap (λ b. (cond b (seen_at ss c) (record { pair = (seen_at ss c).pair; left = needs p; since = (seen_at ss c).since })).left)
-                      silent
+                  silent
                   ∙ needed_there kit o part table es z k p (own_port c p on) e
                 where
                   there : k < length es
@@ -328,14 +336,14 @@ module _ (kit : RowKit) (o : Options) (part : ℕ → Bool) (table : Targets) (e
   pub row_leaves : (row : ℕ → ℕ) (k : ℕ) (e : MidiEvent) (ss : List Seen) → IsRowOf o part table es → ComesAt es k e
       → IsRowAt o part table es z row k ss → is_reset_at (of_port z es) (suc k) ≡ false
       → IsRowLeft o part table es z row k (map (leave (holds_after o table (take (suc k) es)) (leaves_by o table (take (suc k) es)) (suc k)) (kept
-          o table (take k es) ss))
+      o table (take k es) ss))
   row_leaves row k e ss of comes is r = record {
     places = frees kit.told sets row (from_on o part table es z row) k (kept o table (take k es) ss) (holds_after o table (take (suc k) es))
         (leaves_by o table (take (suc k) es))
         (none_first kit o part table es z of) (kept_row row k ss is).0 (tells row k e ss of comes is r);
     takes = subst (λ n. TakesBest sets k n (price row) row)
         (sym (length-map (kept o table (take k es) ss) (leave (holds_after o table (take (suc k) es)) (leaves_by o table (take (suc k) es)) (suc
-            k)) ∙ (kept_row row k ss is).1)) is.takes;
+        k)) ∙ (kept_row row k ss is).1)) is.takes;
   }
 
   pub row_cleared : (row : ℕ → ℕ) (k : ℕ) (ss : List Seen) → IsRowOf o part table es → IsRowAt o part table es z row k ss
@@ -350,7 +358,7 @@ module _ (kit : RowKit) (o : Options) (part : ℕ → Bool) (table : Targets) (e
         takes = subst (λ n. TakesBest sets (suc k) n (price row) row) (sym (length-map (kept o table (take k es) ss) (clear (suc k))
             ∙ (kept_row row k ss is).1))
             (none_taken sets row k (length ss) (price row) is.takes (λ p h. absurd (both_ways false refl (ap (λ ps. is_member is_same_pair ps p)
-                (sym none) ∙ h))));
+            (sym none) ∙ h))));
       }
 
   -- what is there after an event was there before it, but for the pair that it begins
@@ -365,8 +373,11 @@ module _ (kit : RowKit) (o : Options) (part : ℕ → Bool) (table : Targets) (e
       → is_reset_at (of_port z es) (suc k) ≡ false
       → begun_at o part table (port_at es z) (suc k) ≡ [] → IsRowAt o part table es z row (suc k) ss
   row_stays row k ss of left r begun =
-      let old : (p : Pair) → Has (sets (suc k)) p → Has (sets k) p = λ p h. elim (news k p [] of begun h) [ inl was ↦ was | inr new ↦ absurd
-          (both_ways false refl new) ] in
+      let old : (p : Pair) → Has (sets (suc k)) p → Has (sets k) p = λ p h. elim (news k p [] of begun h) [
+        | inl was ↦ was
+        | inr new ↦ absurd
+            (both_ways false refl new)
+      ] in
       record {
         places = none_begins kit.told sets row (from_on o part table es z row) k ss left.places old (alone kit o part table es z row k of r);
         takes = none_taken sets row k (length ss) (price row) left.takes old;
@@ -378,8 +389,11 @@ module _ (kit : RowKit) (o : Options) (part : ℕ → Bool) (table : Targets) (e
   row_goes_on row k ss p c of left r begun here =
       let back = stay_back (sets (suc k)) (pair_on sets row c k) p (sym (left.places.on c (seen_within ss c p here)) ∙ here) in
       let there : Has (sets k) p = (on_found kit.told (place_at sets row k) c (sets k) p back.0).0 in
-      let old : (q : Pair) → Has (sets (suc k)) q → Has (sets k) q = λ q h. elim (news k q (p ∷ []) of begun h) [ inl was ↦ was | inr new ↦ subst
-          (Has (sets k)) (sym (one_member kit.told p q new)) there ] in
+      let old : (q : Pair) → Has (sets (suc k)) q → Has (sets k) q = λ q h. elim (news k q (p ∷ []) of begun h) [
+        | inl was ↦ was
+        | inr new ↦ subst
+            (Has (sets k)) (sym (one_member kit.told p q new)) there
+      ] in
       record {
         places = none_begins kit.told sets row (from_on o part table es z row) k ss left.places old (alone kit o part table es z row k of r);
         takes = none_taken sets row k (length ss) (price row) left.takes old;
@@ -400,13 +414,13 @@ module _ (kit : RowKit) (o : Options) (part : ℕ → Bool) (table : Targets) (e
       was_not = false_from_ne_true (is_member is_same_pair (sets k) p) (λ h.
           let c : ℕ = place_at sets row k p in
           let on : pair_on sets row c k ≡ Some p = on_only kit.told (place_at sets row k) c (sets k) p h refl (λ q m s. left.places.runs.apart q p
-              m h s) in
+          m h s) in
           nowhere_ c (left.places.on c (left.places.runs.within p h) ∙ ap (stay (sets (suc k))) on ∙ stay_some (sets (suc k)) p new))
 
   pub row_takes : (row : ℕ → ℕ) (k : ℕ) (e : MidiEvent) (ss : List Seen) (p : Pair) (c : ℕ) → IsRowOf o part table es → ComesAt es k e
       → IsRowLeft o part table es z row k ss
       → is_reset_at (of_port z es) (suc k) ≡ false → begun_at o part table (port_at es z) (suc k) ≡ p ∷ [] → ((d : ℕ)
-          → (seen_at ss d).pair ≡ Some p → ⊥)
+      → (seen_at ss d).pair ≡ Some p → ⊥)
       → IsBestSeen ss (needed o table (take (suc k) es) p) c → row (suc k) ≡ c → IsRowAt o part table es z row (suc k) (begin_on ss c p)
   row_takes row k e ss p c of comes left r begun none_has best to =
       let news_ = only_begins row k ss p of left begun none_has in
@@ -417,14 +431,14 @@ module _ (kit : RowKit) (o : Options) (part : ℕ → Bool) (table : Targets) (e
             table es z row k of r);
         takes = subst (λ n. TakesBest sets (suc k) n (price row) row) (sym (length-set ss c (begun_on p (seen_at ss c))))
             (best_taken kit.told sets row (from_on o part table es z row) k ss p c (needed o table (take (suc k) es) p) (price row) left.takes
-                left.places news_ best to
+            left.places news_ best to
             (λ d. costs kit o part table es z row k d p own.0));
       }
 
   pub row_room : (row : ℕ → ℕ) (k : ℕ) (e : MidiEvent) (ss : List Seen) (p : Pair) (instant : ℕ) → IsRowOf o part table es → ComesAt es k e
       → IsRowLeft o part table es z row k ss
       → begun_at o part table (port_at es z) (suc k) ≡ p ∷ [] → ((d : ℕ) → (seen_at ss d).pair ≡ Some p → ⊥)
-          → IsNeedOf o part table es z (length ss) instant
+      → IsNeedOf o part table es z (length ss) instant
       → (c : ℕ) × (c < length ss) × ((seen_at ss c).pair ≡ None)
   row_room row k e ss p instant of comes left begun none_has need =
       one_free kit.told sets row (from_on o part table es z row) k ss left.places

@@ -29,13 +29,13 @@ abbrev pub LeavingFrees : Type 0
 LeavingFrees = (at : ℕ → List Pair) (row : ℕ → ℕ) (from : ℕ → ℕ → State) (k : ℕ) (ss : List Seen) (holds : Pair → Bool) (leaves : Pair
     → Option State)
     → at 0 ≡ [] → HasPlaces at row from k ss → TellsLeaving at row from k ss holds leaves
-        → HasLeft at row from k (map (leave holds leaves (suc k)) ss)
+    → HasLeft at row from k (map (leave holds leaves (suc k)) ss)
 
 -- a reset frees all
 abbrev pub ClearingFrees : Type 0
 ClearingFrees = (at : ℕ → List Pair) (row : ℕ → ℕ) (from : ℕ → ℕ → State) (k : ℕ) (ss : List Seen)
     → at 0 ≡ [] → HasPlaces at row from k ss → at (suc k) ≡ [] → ((c : ℕ) → from c (suc k) ≡ default_state)
-        → HasPlaces at row from (suc k) (map (clear (suc k)) ss)
+    → HasPlaces at row from (suc k) (map (clear (suc k)) ss)
 
 -- a place that stays free is left as it was
 abbrev pub IsLeftAlone : (ℕ → List Pair) → (ℕ → ℕ) → (ℕ → ℕ → State) → ℕ → Type 0

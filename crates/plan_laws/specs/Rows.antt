@@ -92,7 +92,7 @@ abbrev pub RowLeaves : Type 0
 RowLeaves = (o : Options) (part : ℕ → Bool) (table : Targets) (es : List MidiEvent) (z : ℕ) (row : ℕ → ℕ) (k : ℕ) (e : MidiEvent) (ss : List Seen)
     → IsRowOf o part table es → ComesAt es k e → IsRowAt o part table es z row k ss → is_reset_at (of_port z es) (suc k) ≡ false
     → IsRowLeft o part table es z row k
-      (map (leave (holds_after o table (take (suc k) es)) (leaves_by o table (take (suc k) es)) (suc k)) (kept o table (take k es) ss))
+    (map (leave (holds_after o table (take (suc k) es)) (leaves_by o table (take (suc k) es)) (suc k)) (kept o table (take k es) ss))
 
 -- a reset frees all
 abbrev pub RowIsCleared : Type 0

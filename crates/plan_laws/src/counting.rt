@@ -3,8 +3,8 @@
 ghost use Rattle.plan_laws.specs.Counting.{NextIsTaken, PairsAreTaken, HeldAreTaken, MusicIsTaken, ResetIsTaken, TickIsTaken, PairsGoOn, BegunIsOfEvent, EventIsAimed, HoldingIsThere, PairsAreOwn, FaultIsFirst};
 
 use retune_model::{
-    front_faults, front_laws, held_laws, next_laws, order_laws, pairs_in_order, part_alone, position_laws,
-    rests_are_runs, sound_sources,
+    front_faults, front_laws, held_laws, next_laws, order_laws, pairs_in_order, part_alone,
+    position_laws, rests_are_runs, sound_sources,
 };
 
 /// What is so at a position by the events up to it, is so by all events.

@@ -1,14 +1,13 @@
 //! Laws of places. The function does nothing: its contract is what is stated.
 
 ghost use Rattle.plan_laws.specs.PlacingLaws.{NoneAtFirst, LeavingFrees, ClearingFrees, NoneBegins, OneBeginsOn, BestIsTaken, NoneIsTaken, OneIsFree};
-
 ghost use Rattle.plan_laws.specs.FromLaws.{BendIsLeftAlone, BendIsCleared, BendLeaves, RestsBeforeItLeaves, HeldHolds, MemberIsLeftAlone, MemberIsCleared, MemberLeaves, MemberCosts};
 ghost use Rattle.plan_laws.specs.Rows.{RowAtFirst, RowIsOfParts, RowLeaves, RowIsCleared, RowStays, RowGoesOn, RowTakes, RowHasRoom};
 
 use crate::counting::{counting_laws, taken_laws};
 use retune_model::{
-    elsewhere, fewest_channels, held_laws, last_ends, pair_laws, position_laws, rests_are_runs, rests_as_written,
-    sound_sources, without_rests,
+    elsewhere, fewest_channels, held_laws, last_ends, pair_laws, position_laws, rests_are_runs,
+    rests_as_written, sound_sources, without_rests,
 };
 
 /// What the places of a row hold is kept by each event: those whose pairs it ends are freed, a reset frees all, and a
