@@ -272,13 +272,15 @@ pub fn table(alloc: Global, scale: &[u8], mapping: &[u8]) -> Option<KeyTable> {
     KeyTable::new(&scale, &mapping).ok()
 }
 
-/// Whether each event is answered as its turn says.
+/// Whether each event is answered as its turn says, also once more after a restart.
 fn are_answered<T: Aims + Drop>(alloc: Global, table: T, options: Options, turns: &[Turn]) -> bool {
     if !may_ask(options) {
         return false;
     }
     let mut parts = Parts::new(alloc, table, options);
-    first_other(&mut parts, turns) == 0
+    let other = first_other(&mut parts, turns);
+    parts.restart();
+    other == 0 && first_other(&mut parts, turns) == 0
 }
 
 fn holds(alloc: Global, case: &Case) -> bool {
