@@ -25,6 +25,8 @@ use retune_model::{drums_stand_apart, last_ends, position_laws, rests_as_written
 use std::alloc::Global;
 
 /// What is wrong with a message to a retuned part of a fifth port, on which nothing has played.
+// A port stands on its stack: a caller into which it were inlined would pay for that at each event.
+#[inline(never)]
 fn fifth_fault(
     alloc: Global,
     options: &Options,
