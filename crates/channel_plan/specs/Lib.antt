@@ -7,3 +7,4 @@ pub mod Masks
 pub mod Layouts
 pub mod Passing
 pub mod Seeing
+pub mod Finding

@@ -6,6 +6,7 @@ mod choice;
 mod counter;
 mod fault;
 mod layout;
+mod needs;
 mod places;
 mod plan;
 mod refusing;

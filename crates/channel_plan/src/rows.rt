@@ -66,6 +66,7 @@ pub(crate) fn zone_row(upper: bool, members: u8) -> Row
 pub(crate) fn lower_allowed(drums: bool, upper: Option<u32>) -> u32
     ensures alone { IfNone upper ((l : ZoneOf) → result ≡ lower_allowed drums (l ∷ [])) }
     ensures both { IfSome upper (λ n. (l u : ZoneOf) → u.members ≡ n → result ≡ lower_allowed drums (l ∷ u ∷ [])) }
+    ensures few { result ≤ 15 }
 {
     match upper {
         _ if drums => 8,
@@ -76,7 +77,8 @@ pub(crate) fn lower_allowed(drums: bool, upper: Option<u32>) -> u32
 
 /// How many members the upper zone of a port may have.
 pub(crate) fn upper_allowed(drums: bool) -> u32
-    ensures { result ≡ upper_allowed drums }
+    ensures allowed { result ≡ upper_allowed drums }
+    ensures few { result ≤ 14 }
 {
     if drums { 5 } else { 14 }
 }

@@ -1,0 +1,54 @@
+-- What is planned for a port before its runs are given channels: what it needs, or why it gets no plan.
+use Rattle.std.specs.Prelude.{◌≡◌, ℕ, List, Bool, map, length}
+use Rattle.mt_base.specs.Midi.{MidiEvent}
+use Rattle.mt_base.specs.declared.pair.Pair.{Pair}
+use Rattle.retune_model.specs.Options.{Options}
+use Rattle.retune_model.specs.Faults.{Targets, is_part}
+use Rattle.retune_model.specs.PortNeed.{pairs_on, need_of}
+use Rattle.channel_model.specs.Refusals.{NeedsMore, PortFits, FirstNeedsMore, ZonesFit, zones_allowed}
+use Rattle.channel_model.specs.MpeOutput.{Zone as ZoneOf}
+use Rattle.channel_model.specs.Rows.{allowed_row, used_row, zones_on}
+use Rattle.lifetimes.specs.Views.{pair_of}
+use Rattle.channel_plan.specs.Planned.{instant_of, zone_told, zone_pairs_told}
+use Rattle.channel_plan.specs.Refused.{too_many_of}
+use Rattle.channel_plan.specs.declared.fault.Instant.{Instant}
+use Rattle.channel_plan.specs.declared.fault.PlanFault.{PlanFault}
+use Rattle.channel_plan.specs.declared.fault.PlanFault.TheVariants.{TooManyChannels, Memory}
+use Rattle.channel_plan.specs.declared.plan.PortPlan.{PortPlan}
+use Rattle.channel_plan.specs.declared.plan.ZonePlan.{ZonePlan}
+
+-- what a port needs, the first instant at which it does, and the pairs then
+pub record Finds (o : Options) (part : ℕ → Bool) (table : Targets) (es : List MidiEvent) (z need : ℕ) (instant : Instant) (pairs : List Pair) : Type 0 where
+  pub number : need ≡ (need_of o part table es z).0
+  pub first : instant ≡ instant_of es (need_of o part table es z).1
+  pub most : map pair_of pairs ≡ pairs_on o part table es z (need_of o part table es z).1
+
+-- a port on bend that fits, with its used row
+pub record IsBendPort (o : Options) (allowed : ℕ → Bool) (table : Targets) (es : List MidiEvent) (z : ℕ) (p : PortPlan) : Type 0 where
+  pub number : p.number ≡ z
+  pub found : Finds o (is_part o) table es z p.need p.instant p.pairs.items
+  pub used : p.used.items ≡ used_row o allowed (need_of o (is_part o) table es z).0
+  pub fits : PortFits o allowed table es z
+
+-- why a port on bend gets no plan
+abbrev pub IsBendFault : Options → (ℕ → Bool) → Targets → List MidiEvent → ℕ → PlanFault → Type 0
+IsBendFault o allowed table es z (TooManyChannels t) = NeedsMore o (is_part o) table es z (length (allowed_row o allowed)) (too_many_of t)
+IsBendFault o allowed table es z Memory = Unit {0}
+IsBendFault o allowed table es z _ = ⊥
+
+-- a zone, with its pairs where there were most
+pub record IsZoneTold (o : Options) (table : Targets) (es : List MidiEvent) (z : ℕ) (zone : ZoneOf) (p : ZonePlan) : Type 0 where
+  pub told : p.zone ≡ zone_told o table es z zone
+  pub pairs : map pair_of p.pairs.items ≡ zone_pairs_told o table es z zone
+
+-- the zones of a port on MPE that fit, the lower one first
+pub record AreZones (o : Options) (table : Targets) (es : List MidiEvent) (z : ℕ) (plans : List ZonePlan) : Type 0 where
+  pub zones : map (λ p. p.zone) plans ≡ map (zone_told o table es z) (zones_on o table es z)
+  pub pairs : map (λ p. map pair_of p.pairs.items) plans ≡ map (zone_pairs_told o table es z) (zones_on o table es z)
+  pub fit : ZonesFit o table es z
+
+-- why a port on MPE gets no zones
+abbrev pub IsZoneFault : Options → Targets → List MidiEvent → ℕ → PlanFault → Type 0
+IsZoneFault o table es z (TooManyChannels t) = FirstNeedsMore o table es z (zones_allowed o table es z) (too_many_of t)
+IsZoneFault o table es z Memory = Unit {0}
+IsZoneFault o table es z _ = ⊥
