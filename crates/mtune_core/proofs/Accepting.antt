@@ -1,7 +1,6 @@
 -- Where the words and the contents are accepted and no count rose, no fault but want of memory has its cause.
 use Rattle.std.proofs.Common.{◌≡◌, ◌<◌, ◌⊎◌, ℕ, List, [], ◌∷◌, ◌++◌, length, true, Option, Some, None, is_some, refl, ap, sym, subst, ◌∙◌, inl, inr, arith}
-use Rattle.std.specs.List.{AllByRecursion}
-use Rattle.mt_base.specs.Midi.{MidiEvent}
+use Rattle.mt_base.specs.Laws.{EndsInOrder}
 use Rattle.scala_lines.specs.Lines.{lines_of}
 use Rattle.scl_text.specs.declared.entry.Entry.{Entry}
 use Rattle.scl_text.specs.declared.fault.SclKind.{SclKind}
@@ -12,10 +11,15 @@ use Rattle.kbm_text.specs.Spelling.{MapText, MapFault}
 use Rattle.midi_model.specs.declared.fault.SmfKind.{SmfKind}
 use Rattle.midi_model.specs.FileText.{MidiFile}
 use Rattle.midi_model.specs.Faults.{FirstFault}
+use Rattle.midi_model.specs.FileLaws.{FileIsPlayable}
+use Rattle.midi_model.specs.Merged.{merged}
 use Rattle.midi_model.specs.Spelling.{Spells}
 use Rattle.retune_model.specs.Table.{IsTable, one_scale}
-use Rattle.retune_model.specs.Dump.{tuning_at}
+use Rattle.retune_model.specs.SourceFaults.{first_fault}
+use Rattle.retune_model.specs.FaultLaws.{FirstIsOfAnEvent}
 use Rattle.retune_model.specs.Faults.{Targets}
+use Rattle.lifetimes.specs.declared.fault.SourceFault.{SourceFault}
+use Rattle.lifetimes.specs.Views.{fault_of}
 use Rattle.mtune_files.specs.Counts.{next, one_load, one_store, one_say, loads_of}
 use Rattle.mtune_files.specs.Names.{Held, content_at}
 use Rattle.mtune_files.specs.Outside.{Outside, IsContent, HasContent, IsLongerThan, after_load}
@@ -23,25 +27,29 @@ use Rattle.mtune_files.specs.declared.counts.Counts.{Counts}
 use Rattle.mtune_files.specs.declared.which.Which.{Which}
 use Rattle.mtune_files.specs.declared.which.Which.TheVariants.{Scale, Map, Input}
 use Rattle.mtune_core.specs.declared.outcome.Fault.{Fault}
-use Rattle.mtune_core.specs.declared.outcome.Fault.TheVariants.{Usage, NotYet, Load, TooLong, Scl, Kbm, ReferenceUnmapped, TooManyPeriods, Smf, Store, Say, Memory}
+use Rattle.mtune_core.specs.declared.outcome.Fault.TheVariants.{Usage, Load, TooLong, Scl, Kbm, ReferenceUnmapped, TooManyPeriods, Smf, Source, Store, Say, Memory}
 use Rattle.mtune_core.specs.Accepted.{IsAccepted, NoneRose}
 use Rattle.mtune_core.specs.Call.{CommandCause, IsRefused}
 use Rattle.mtune_core.specs.Command.{Command, command_of, MapChoice, Named, At440, Standard}
 use Rattle.mtune_core.specs.Contents.{Content, At, LoadCause}
 use Rattle.mtune_core.specs.Limits.{text_limit, input_limit}
 use Rattle.mtune_core.specs.Lines.{fault_line}
-use Rattle.mtune_core.specs.Retuned.{AreTaken, HasUntaken, HasUnplayed, InputCause}
-use Rattle.mtune_core.specs.Source.{is_taken}
+use Rattle.mtune_core.specs.Retuned.{InputCause}
 use Rattle.mtune_core.specs.Table.{IsScaleAt, IsMappingAt, Tuning, scaling_of, IsTuneFault, ScaleCause, MapCause, MappingCause, TableFrom, TableCause, after_texts}
-use Rattle.mtune_core.proofs.Ended.{clash, MaySay, told_faults}
+use Rattle.mtune_core.proofs.Ended.{MaySay, told_faults}
+use Rattle.mtune_core.proofs.Reach.{in_reach_has_no_fault}
 
--- A text has one scale or a fault, one mapping or a fault, and bytes have one file or a fault.
+-- A text has one scale or a fault, one mapping or a fault, and bytes have one file, which may be played, or a fault; the ends of bounds
+-- are in order, and the first fault is that of an event.
 pub record OneAnswer : Type 0 where
   pub one_scale : (lines : List (List ℕ)) (es fs : List Entry) → ScaleText lines es → ScaleText lines fs → es ≡ fs
   pub no_scale_fault : (lines : List (List ℕ)) (entries : List Entry) (line : ℕ) (kind : SclKind) → ScaleText lines entries → ScaleFault lines line kind → ⊥
   pub one_mapping : (lines : List (List ℕ)) (m n : KeyMap) → MapText lines m → MapText lines n → m ≡ n
   pub no_mapping_fault : (lines : List (List ℕ)) (m : KeyMap) (line : ℕ) (kind : KbmKind) → MapText lines m → MapFault lines line kind → ⊥
   pub one_file : (bytes : List ℕ) (a b : MidiFile) → Spells bytes a → Spells bytes b → a ≡ b
+  pub playable : FileIsPlayable
+  pub ends : EndsInOrder
+  pub first : FirstIsOfAnEvent
   pub no_file_fault : (bytes : List ℕ) (file : MidiFile) (offset : ℕ) (kind : SmfKind) → Spells bytes file → FirstFault bytes offset kind → ⊥
 
 -- ---- a name holds one content
@@ -99,25 +107,15 @@ store_rose before mid now none e (inr s) = let is : now.stores ≡ next before.s
 say_rose : (before mid now : Counts) → NoneRose before now → mid ≡ one_say before → now ≡ mid → ⊥
 say_rose before mid now none e s = let is : now.says ≡ next before.says = ap (λ (c : Counts). c.says) s ∙ ap (λ (c : Counts). c.says) e in none.says (omega (arith, is))
 
--- ---- a source that is taken, and whose keys have targets
-taken_there : (front back : List MidiEvent) (e : MidiEvent) → AllByRecursion (λ x. is_taken x.what ≡ true) (front ++ e ∷ back) → is_taken e.what ≡ true
-taken_there [] back e h = h.0
-taken_there (x ∷ xs) back e h = taken_there xs back e h.1
-
-none_untaken : (source : MidiFile) → AreTaken source → HasUntaken source → ⊥
-none_untaken source taken u = clash (is_taken u.1.what) (taken_there u.0 u.2 u.1 (subst (λ es. AllByRecursion (λ x. is_taken x.what ≡ true) es) u.3 taken)) u.4
-
-none_unplayed : (o : Outside) (words : List (List ℕ)) (a : IsAccepted o words) (table : Targets) → IsTable (scaling_of a.tuning) table → HasUnplayed table a.source → ⊥
-none_unplayed o words a table is_table u = clash (is_some (tuning_at table u.0)) (a.playable table is_table u.0 u.1 u.2) (ap is_some u.3)
-
-not_yet : OneAnswer → (o : Outside) (words : List (List ℕ)) (a : IsAccepted o words) (table : Targets) (kind : ℕ)
-    → IsTable (scaling_of a.tuning) table → InputCause table a.input.bytes (NotYet kind) → ⊥
-not_yet laws o words a table kind is_table cause =
+-- ---- a source without a fault
+no_source_fault : OneAnswer → (o : Outside) (words : List (List ℕ)) (a : IsAccepted o words) (table : Targets) (f : SourceFault)
+    → IsTable (scaling_of a.tuning) table → InputCause a.command.options table a.input.bytes (Source f) → ⊥
+no_source_fault laws o words a table f is_table cause =
     let same : cause.0 ≡ a.source = laws.one_file a.input.bytes cause.0 a.source cause.1 a.spelled in
-    elim (subst (λ s. ((kind ≡ 2) × HasUntaken s) ⊎ ((kind ≡ 3) × AreTaken s × HasUnplayed table s)) same cause.2) [
-      | inl u ↦ none_untaken a.source a.taken u.1
-      | inr u ↦ none_unplayed o words a table is_table u.2
-    ]
+    let short = a.input.short in
+    let first = subst (λ (s : MidiFile). first_fault a.command.options table (merged s) ≡ Some (fault_of f)) same cause.2 in
+    in_reach_has_no_fault laws.ends laws.first (scaling_of a.tuning) a.command.options table (merged a.source) (fault_of f)
+    (laws.playable a.input.bytes a.source (omega (arith, short)) a.spelled).valid (λ key onset. refl) a.tuning.few is_table a.in_reach (a.no_other_fault table is_table) first
 
 -- ---- each cause
 load_free : (which : Which) (name : List ℕ) (limit : ℕ) (before mid : Outside) (now : Counts) (names : Held) (fault : Fault)
@@ -157,9 +155,9 @@ no_tune_fault o c t (TooManyPeriods key) h =
 no_tune_fault o c t fault h = absurd h
 
 input_free : OneAnswer → (o : Outside) (words : List (List ℕ)) (a : IsAccepted o words) (table : Targets) → IsTable (scaling_of a.tuning) table
-    → (fault : Fault) → InputCause table a.input.bytes fault → fault ≡ Memory
+    → (fault : Fault) → InputCause a.command.options table a.input.bytes fault → fault ≡ Memory
 input_free laws o words a table is_table (Smf offset kind) h = absurd (laws.no_file_fault a.input.bytes a.source offset kind a.spelled h)
-input_free laws o words a table is_table (NotYet kind) h = absurd (not_yet laws o words a table kind is_table h)
+input_free laws o words a table is_table (Source f) h = absurd (no_source_fault laws o words a table f is_table h)
 input_free laws o words a table is_table Memory h = refl
 input_free laws o words a table is_table fault h = absurd h
 
@@ -192,7 +190,7 @@ no_cause laws before mid words a now none s fault (inr h) =
     elim h.2 [
       | inl l ↦ load_free Input a.command.input input_limit o mid now a.names fault a.told mine none s l
       | inr r ↦ input_free laws before words a h.0 (its_table laws before a.command a.names a.tuning h.0 a.told h.1) fault
-          (its_bytes o a.names a.command.input input_limit (λ t. InputCause h.0 t fault) a.told mine r.0)
+          (its_bytes o a.names a.command.input input_limit (λ t. InputCause a.command.options h.0 t fault) a.told mine r.0)
     ]
 
 -- the cause of a command is that of the words' own

@@ -3,13 +3,9 @@ use Rattle.std.proofs.Common.{◌≡◌, ℕ, zero, suc, ◌+◌, ◌<◌, ◌�
 use Rattle.std.specs.Prelude.{◌==◌}
 use Rattle.std.specs.List.{AllByRecursion}
 use Rattle.std.proofs.lemmas.Bool.{cases_Bool, eqb-true, ltb-true}
-use Rattle.mt_base.specs.Midi.{Timed, MidiEvent, placed}
-use Rattle.midi_model.specs.Merged.{precedes, InOrder, AreTracksOf, timed}
+use Rattle.mt_base.specs.Midi.{MidiEvent}
+use Rattle.midi_model.specs.Merged.{precedes}
 use Rattle.event_stream.specs.Distributed.{events_in, distributed_from}
-
-pub timed_placed : (t : ℕ) (es : List Timed) → map timed (map (placed t) es) ≡ es
-timed_placed t [] = refl
-timed_placed t (e ∷ es) = ap (λ l. e ∷ l) (timed_placed t es)
 
 pub length_dealt : (n m : ℕ) (es : List MidiEvent) → length (distributed_from n m es) ≡ m
 length_dealt n zero es = refl
@@ -37,9 +33,3 @@ no_earlier e f h = pick (e.tick == f.tick) refl h
     pick : (b : Bool) → (e.tick == f.tick) ≡ b → cond b (nat_le e.track f.track) (nat_lt e.tick f.tick) ≡ true → e.tick ≤ f.tick
     pick true x k = let same : e.tick ≡ f.tick = eqb-true e.tick f.tick x in omega (arith, same)
     pick false x k = let less : e.tick < f.tick = ltb-true e.tick f.tick k in omega (arith, less)
-
--- the events of a track of a file come in order
-pub track_in_order : (n i t : ℕ) (ts : List (List Timed)) → n + i ≡ t → AreTracksOf n ts → InOrder (map (placed t) (get_or ts i []))
-track_in_order n i t [] is h = tt
-track_in_order n zero t (es ∷ ts) is h = let same : n ≡ t = omega (arith, is) in subst (λ m. InOrder (map (placed m) es)) same h.0.in_order
-track_in_order n (suc i) t (es ∷ ts) is h = track_in_order (suc n) i t ts (omega (arith, is)) h.1

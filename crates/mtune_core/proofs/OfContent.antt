@@ -41,4 +41,4 @@ is_of_content c before now fault (inl (inr h)) = elim h.2 [
   | inl l ↦ of_mapping c.mapping (after_load Scale before) now fault l
   | inr r ↦ of_content (IsTuneFault h.0 r.0) (λ k x. x) (λ x. x) (λ x. x) fault r.3
 ]
-is_of_content c before now fault (inr h) = of_load Input c.input input_limit (InputCause h.0) (after_texts c before) now fault (λ input. of_content (InputCause h.0 input) (λ k x. x) (λ x. x) (λ x. x) fault) h.2
+is_of_content c before now fault (inr h) = of_load Input c.input input_limit (InputCause c.options h.0) (after_texts c before) now fault (λ input. of_content (InputCause c.options h.0 input) (λ k x. x) (λ x. x) (λ x. x) fault) h.2

@@ -16,9 +16,9 @@ use Rattle.mtune_core.specs.Table.{TableFrom, scaling_of, after_texts}
 
 -- ---- from the table to what is made
 pub prepared : (r : Result Made Fault) (o mid : Outside) (c : Command) (table : Targets) → mid ≡ after_texts c o → TableFrom o c table
-    → IfOk r (λ made. MadeFrom mid c.input table made.output.items made.report.items) → IfOk r (λ made. IsPrepared o c made.output.items made.report.items)
+    → IfOk r (λ made. MadeFrom mid c.input c.options table made.output.items made.report.items) → IfOk r (λ made. IsPrepared o c made.output.items made.report.items)
 prepared (Ok made) o mid c table e t m =
-    let n : MadeFrom (after_texts c o) c.input table made.output.items made.report.items = subst (λ p. MadeFrom p c.input table made.output.items made.report.items) e m in
+    let n : MadeFrom (after_texts c o) c.input c.options table made.output.items made.report.items = subst (λ p. MadeFrom p c.input c.options table made.output.items made.report.items) e m in
     record {
       tuning = t.0;
       table = table;
@@ -29,9 +29,9 @@ prepared (Ok made) o mid c table e t m =
 prepared (Err fault) o mid c table e t m = tt
 
 pub input_stopped : (r : Result Made Fault) (o mid now : Outside) (c : Command) (table : Targets) → mid ≡ after_texts c o → TableFrom o c table
-    → IfErr r (λ e. ContentCause Input c.input input_limit (InputCause table) mid now e) → IfErr r (λ e. CommandCause c o now e)
+    → IfErr r (λ e. ContentCause Input c.input input_limit (InputCause c.options table) mid now e) → IfErr r (λ e. CommandCause c o now e)
 input_stopped (Ok made) o mid now c table e t h = tt
-input_stopped (Err fault) o mid now c table e t h = inr (table, t, subst (λ p. ContentCause Input c.input input_limit (InputCause table) p now fault) e h)
+input_stopped (Err fault) o mid now c table e t h = inr (table, t, subst (λ p. ContentCause Input c.input input_limit (InputCause c.options table) p now fault) e h)
 
 abbrev pub made_for : (o : Outside) (words : List (List ℕ)) (c : Command) (output report : List ℕ) → command_of words ≡ Some c → IsPrepared o c output report → IsMade o words
 made_for o words c output report is_command is_prepared = record { command = c; output = output; report = report; is_command = is_command; is_prepared = is_prepared }

@@ -1,4 +1,4 @@
--- What the dump route gives can be written as a file, and its bytes spell it.
+-- What a route gives can be written as a file, and its bytes spell it.
 use Rattle.std.proofs.Common.{◌≡◌, ℕ, ◌+◌, ◌*◌, ◌^◌, ◌<◌, ◌≤◌, List, [], ◌∷◌, ◌++◌, length, map, filter, Bool, true, Option, refl, sym, subst, ◌∙◌, inl, inr, arith, lit≤}
 use Rattle.std.specs.Prelude.{All, ◌&&◌, nat_eq}
 use Rattle.std.specs.List.{AllByRecursion}
@@ -11,21 +11,16 @@ use Rattle.mt_base.specs.Valid.{IsValidEvent}
 use Rattle.midi_model.specs.FileText.{MidiFile}
 use Rattle.midi_model.specs.Merged.{InOrder, EndsOnce, of_track, IsPlayable, merged, timed}
 use Rattle.midi_model.specs.Spelling.{Spells}
-use Rattle.midi_model.specs.TuningBytes.{dump_bytes}
 use Rattle.midi_model.specs.Writing.{Written, written, track_bytes, IsWritable, IsWritableFile}
 use Rattle.event_stream.specs.Distributed.{events_in, distributed}
-use Rattle.retune_model.specs.OutputLaws.{DumpedOnePort}
-use Rattle.retune_model.specs.Dump.{from_up, has_note_on, dump_setup, dumped}
-use Rattle.retune_model.specs.Faults.{is_part}
-use Rattle.mtune_core.specs.Output.{dumped_file}
-use Rattle.mtune_core.specs.Chosen.{dump_options}
-use Rattle.mtune_core.specs.OutputLaws.{IsShortSetup, TracksAreShort, OutputIsSpelt}
-use Rattle.mtune_core.specs.Source.{is_taken}
-use Rattle.mtune_core.proofs.Premises.{SpeltLaws}
-use Rattle.mtune_core.proofs.Faultless.{taken_names_first}
+use Rattle.midi_model.specs.WritingLaws.{WrittenIsSpelt}
+use Rattle.retune_model.specs.Options.{Options}
+use Rattle.retune_model.specs.Faults.{Targets}
+use Rattle.routes.specs.Laws.{RoutedIsPlayable, TracksAreShort}
+use Rattle.routes.specs.Routed.{routed}
+use Rattle.mtune_core.specs.Output.{routed_file}
+use Rattle.mtune_core.specs.OutputLaws.{OutputIsSpelt}
 use Rattle.mtune_core.proofs.Dealt.{length_dealt, get_dealt, each_weaker, each_picked, no_earlier}
-use Rattle.mtune_core.proofs.DumpOutput.{written_is_dump_output}
-use Rattle.mtune_core.proofs.Lengths.{one_if, each_if}
 
 -- ---- the tracks of a playable list
 
@@ -58,32 +53,9 @@ all_writable n es h = All-from_get_or (IsWritable 0) (distributed n es) [] (λ i
 
 -- ---- their lengths
 
-filter_few : (p : ℕ → Bool) (xs : List ℕ) → length (filter p xs) ≤ length xs
-filter_few p [] = omega arith
-filter_few p (x ∷ xs) = elim (cases_Bool (p x)) [
-  | inl picked ↦ rw picked (omega (arith, filter_few p xs))
-  | inr left ↦ rw left (omega (arith, filter_few p xs))
-]
-
--- the dump route's setup, where its dump has the length of a dump of the standard
-short_dump : (bytes : List ℕ) (es : List MidiEvent) → length bytes ≡ 407 → IsShortSetup (dump_setup dump_options bytes es)
-short_dump bytes es len = record {
-  one_dump = one_if (has_note_on (is_part dump_options) es) bytes;
-  dumps = each_if (has_note_on (is_part dump_options) es) bytes (omega (arith, len));
-  channels = filter_few (λ c. is_part dump_options c && has_note_on (λ d. nat_eq d c) es) (from_up 0 16);
-}
-
 short_tracks : (ts : List (List Timed)) → All (λ (w : Written). length w.bytes < 2 ^ 32) (map written ts) → All (λ (es : List Timed). length (track_bytes es) < 2 ^ 32) ts
 short_tracks ts h = All-from_get_or (λ (es : List Timed). length (track_bytes es) < 2 ^ 32) ts [] (λ i lt.
     subst (λ (w : Written). length w.bytes < 2 ^ 32) (get_or-map written ts i [] (written []) lt) (h i (written []) (omega (arith, lt, length-map ts written))))
-
-dumped_short : DumpedOnePort → TracksAreShort → (bytes : List ℕ) (source : MidiFile) (dump : List ℕ) → Spells bytes source → length bytes ≤ 4194304 → AllByRecursion (λ e. is_taken e.what ≡ true) (merged source) → length dump ≡ 407
-    → All (λ (es : List Timed). length (track_bytes es) < 2 ^ 32) (distributed (length source.tracks) (dumped dump_options dump (merged source)))
-dumped_short one_port short bytes source dump is few taken len =
-    let s = dump_setup dump_options dump (merged source) in
-    short_tracks (distributed (length source.tracks) (dumped dump_options dump (merged source)))
-    (subst (λ es. All (λ (w : Written). length w.bytes < 2 ^ 32) (map written (distributed (length source.tracks) es))) (written_is_dump_output s (merged source) ∙ sym (one_port dump_options dump (merged source) (taken_names_first (merged source) taken)))
-    (short bytes source s is few (short_dump dump (merged source) len)))
 
 -- ---- the division
 
@@ -115,18 +87,22 @@ division_below bytes source is h =
 
 -- ---- the file
 
--- The output of the dump route can be written.
-pub dumped_is_written : SpeltLaws → (bytes : List ℕ) (source : MidiFile) (targets : List (Option ℕ)) → Spells bytes source → length bytes ≤ 4194304 → source.division < 2 ^ 16
-    → IsPlayable (length source.tracks) (merged source) → AllByRecursion (λ e. is_taken e.what ≡ true) (merged source) → length (dump_bytes 0 targets) ≡ 407 → IsWritableFile (dumped_file targets source)
-dumped_is_written laws bytes source targets is few division plays taken len =
+-- What the output rests on, as the contracts of the crates below have it.
+pub record SpeltLaws : Type 0 where
+  pub short : TracksAreShort
+  pub playable : RoutedIsPlayable
+  pub spelt : WrittenIsSpelt
+
+routed_is_written : SpeltLaws → (bytes : List ℕ) (source : MidiFile) (o : Options) (table : Targets) → Spells bytes source → length bytes ≤ 4194304 → source.division < 2 ^ 16
+    → IsPlayable (length source.tracks) (merged source) → o.program ≤ 127 → IsWritableFile (routed_file o table source)
+routed_is_written laws bytes source o table is few division plays program =
     let n = length source.tracks in
-    let dump = dump_bytes 0 targets in
-    let es = dumped dump_options dump (merged source) in
+    let es = routed o table (merged source) in
     let count : length (distributed n es) ≡ n = length_dealt 0 n es in
     let fields = is.are_fields in
     record {
-      tracks = all_writable n es (laws.playable n dump_options dump (merged source) (omega (arith, len)) (lit≤ tt) plays);
-      short = dumped_short laws.one_port laws.short bytes source dump is few taken len;
+      tracks = all_writable n es (laws.playable n o table (merged source) program plays);
+      short = short_tracks (distributed n es) (laws.short bytes source o table is few);
       one_or_more = omega (arith, count, fields.one_or_more);
       few = omega (arith, count, fields.few);
       format_0_or_1 = fields.format_0_or_1;
@@ -134,7 +110,7 @@ dumped_is_written laws bytes source targets is few division plays taken len =
       division = division;
     }
 
--- The bytes of the output of the dump route spell it.
-pub dumped_spells : SpeltLaws → OutputIsSpelt
-dumped_spells laws bytes source targets is few division plays taken len =
-    laws.spelt (dumped_file targets source) (dumped_is_written laws bytes source targets is few division plays taken len)
+-- The bytes of the output spell it.
+pub routed_spells : SpeltLaws → OutputIsSpelt
+routed_spells laws bytes source o table is few division plays plain =
+    laws.spelt (routed_file o table source) (routed_is_written laws bytes source o table is few division plays plain.program)

@@ -1,26 +1,24 @@
 -- What is asked of the words and the contents, so that the call has no reason to refuse them.
-use Rattle.std.specs.Prelude.{ℕ, ◌≡◌, ◌<◌, pos, List, true, Some}
+use Rattle.std.specs.Prelude.{ℕ, ◌≡◌, ◌<◌, ◌⊎◌, pos, List, true, Some, length}
+use Rattle.mt_base.specs.Midi.{MidiEvent}
 use Rattle.mt_base.specs.Pitch.{Pitch, IsPitch, AtLeast, AtMost}
 use Rattle.midi_model.specs.FileText.{MidiFile}
 use Rattle.midi_model.specs.Merged.{merged}
 use Rattle.midi_model.specs.Spelling.{Spells}
 use Rattle.retune_model.specs.Table.{Scaling, IsTable, pitch_at}
-use Rattle.retune_model.specs.Faults.{Targets}
+use Rattle.retune_model.specs.Options.{Options}
+use Rattle.retune_model.specs.Faults.{Targets, UnmappedKey, KeyOutOfDevice}
+use Rattle.retune_model.specs.SourceFaults.{Fault, fault_at}
 use Rattle.mtune_files.specs.declared.which.Which.{Which}
 use Rattle.mtune_files.specs.declared.counts.Counts.{Counts}
 use Rattle.mtune_files.specs.Counts.{Rose, loads_of}
 use Rattle.mtune_files.specs.Names.{Held}
 use Rattle.mtune_files.specs.Outside.{Outside}
-use Rattle.mtune_core.specs.Chosen.{uses_key}
 use Rattle.mtune_core.specs.Command.{Command, command_of}
 use Rattle.mtune_core.specs.Contents.{Content}
 use Rattle.mtune_core.specs.Limits.{input_limit}
-use Rattle.mtune_core.specs.Retuned.{AreTaken, HaveTargets}
+use Rattle.mtune_core.specs.Report.{uses_key}
 use Rattle.mtune_core.specs.Table.{Tuning, scaling_of}
-
--- each key that a retuned part has a note on of has a target, whichever table of the scale is taken
-abbrev pub ArePlayable : Scaling → MidiFile → Type 0
-ArePlayable scaling source = (table : Targets) → IsTable scaling table → HaveTargets table source
 
 -- the scale pitch of a key is from 0 to 12,700 cents, of 32,000,000,000 grains each
 pub record IsInReach (scaling : Scaling) (key : ℕ) : Type 0 where
@@ -31,12 +29,16 @@ pub record IsInReach (scaling : Scaling) (key : ℕ) : Type 0 where
   pub most : AtMost pitch (pos 406400000000000)
 
 -- so it is for each key that a retuned part has a note on of
-abbrev pub AreInReach : Scaling → MidiFile → Type 0
-AreInReach scaling source = (key : ℕ) → key < 128 → uses_key key (merged source) ≡ true → IsInReach scaling key
+abbrev pub AreInReach : Scaling → Options → List MidiEvent → Type 0
+AreInReach scaling o es = (key : ℕ) → key < 128 → uses_key o key es ≡ true → IsInReach scaling key
+
+-- no event has a fault of another kind than that its key has no pitch, or a target that a device can't play
+abbrev pub HasNoOtherFault : Options → Targets → List MidiEvent → Type 0
+HasNoOtherFault o table es = (k : ℕ) (f : Fault) → k < length es → fault_at o table es k ≡ Some f → (f.kind ≡ UnmappedKey) ⊎ (f.kind ≡ KeyOutOfDevice)
 
 -- The words are those of a command, and it is told what is held. Its scale and its mapping are read, and give each key a pitch of
--- few enough terms. At the input's name stand bytes that spell a file, whose events are taken and whose keys have targets. No
--- content is longer than its limit.
+-- few enough terms. At the input's name stand bytes that spell a file. The scale pitches of its keys are in a device's reach, and
+-- its events have no other fault, whichever table of the scale is taken. No content is longer than its limit.
 pub record IsAccepted (o : Outside) (words : List (List ℕ)) : Type 0 where
   pub names : Held
   pub command : Command
@@ -46,8 +48,8 @@ pub record IsAccepted (o : Outside) (words : List (List ℕ)) : Type 0 where
   pub input : Content o command.input input_limit
   pub source : MidiFile
   pub spelled : Spells input.bytes source
-  pub taken : AreTaken source
-  pub playable : ArePlayable (scaling_of tuning) source
+  pub in_reach : AreInReach (scaling_of tuning) command.options (merged source)
+  pub no_other_fault : (table : Targets) → IsTable (scaling_of tuning) table → HasNoOtherFault command.options table (merged source)
 
 -- no count of failures rose
 pub record NoneRose (before now : Counts) : Type 0 where

@@ -20,7 +20,7 @@ pub record IsPrepared (o : Outside) (c : Command) (output report : List ℕ) : T
   pub table : Targets
   pub is_table : IsOneTable (scaling_of tuning) table
   pub input : Content o c.input input_limit
-  pub retuned : IsRetuned (scaling_of tuning) table input.bytes output report
+  pub retuned : IsRetuned (scaling_of tuning) c.options table input.bytes output report
 
 pub record IsMade (o : Outside) (words : List (List ℕ)) : Type 0 where
   pub command : Command
@@ -33,7 +33,7 @@ pub record IsMade (o : Outside) (words : List (List ℕ)) : Type 0 where
 abbrev pub CommandCause : Command → Outside → Outside → Fault → Type 0
 CommandCause c before now fault = TableCause c before now fault
     ⊎ ((table : Targets) × TableFrom before c table
-    × ContentCause Input c.input input_limit (InputCause table) (after_texts c before) now fault)
+    × ContentCause Input c.input input_limit (InputCause c.options table) (after_texts c before) now fault)
 
 -- ---- the call
 

@@ -5,10 +5,12 @@ use Rattle.kbm_text.specs.declared.fault.KbmFault.{KbmFault}
 use Rattle.kbm_text.specs.declared.fault.KbmFault.TheVariants as kbm
 use Rattle.smf_read.specs.declared.fault.SmfFault.{SmfFault}
 use Rattle.smf_read.specs.declared.fault.SmfFault.TheVariants as smf
+use Rattle.lifetimes.specs.declared.fault.StepFault.{StepFault}
+use Rattle.lifetimes.specs.declared.fault.StepFault.TheVariants as step
 use Rattle.key_pitch.specs.declared.fault.TuneFault.{TuneFault}
 use Rattle.key_pitch.specs.declared.fault.TuneFault.TheVariants as tune
 use Rattle.mtune_core.specs.declared.outcome.Fault.{Fault}
-use Rattle.mtune_core.specs.declared.outcome.Fault.TheVariants.{Scl, Kbm, ReferenceUnmapped, TooManyPeriods, Smf, Memory}
+use Rattle.mtune_core.specs.declared.outcome.Fault.TheVariants.{Scl, Kbm, ReferenceUnmapped, TooManyPeriods, Smf, Source, Memory}
 
 abbrev pub of_memory : Fault
 of_memory = Memory
@@ -28,3 +30,7 @@ of_tuning (tune.TooManyPeriods key) = TooManyPeriods key
 abbrev pub of_file : SmfFault → Fault
 of_file (smf.At offset kind) = Smf offset kind
 of_file smf.Memory = Memory
+
+abbrev pub of_step : StepFault → Fault
+of_step (step.Source f) = Source f
+of_step step.Memory = Memory

@@ -5,12 +5,10 @@ pub mod Command
 pub mod Lines
 pub mod Contents
 pub mod Table
-pub mod Source
-pub mod Survey
-pub mod Chosen
-pub mod Putting
+pub mod Report
 pub mod Output
 pub mod Retuned
+pub mod Survey
 pub mod OutputLaws
 pub mod Made
 pub mod Call

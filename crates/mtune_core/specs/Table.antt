@@ -8,10 +8,8 @@ use Rattle.kbm_text.specs.Spelling.{MapText, MapFault}
 use Rattle.retune_model.specs.Scale.{above_middle}
 use Rattle.retune_model.specs.Table.{Scaling, IsTable, IsOnePerScale, AreFewTerms, one_scale}
 use Rattle.retune_model.specs.Faults.{Targets}
-use Rattle.key_pitch.specs.Aims.{table_of}
 use Rattle.key_pitch.specs.Causes.{Refuses}
 use Rattle.key_pitch.specs.declared.fault.TuneFault.TheVariants as tune
-use Rattle.key_pitch.specs.declared.table.KeyTable.{KeyTable}
 use Rattle.mtune_files.specs.Counts.{one_load}
 use Rattle.mtune_files.specs.Outside.{Outside, after_load}
 use Rattle.mtune_files.specs.declared.counts.Counts.{Counts}
@@ -50,10 +48,6 @@ scaling_of t = one_scale t.entries t.mapping
 pub record IsOneTable (scaling : Scaling) (table : Targets) : Type 0 where
   pub is_table : IsTable scaling table
   pub one : IsOnePerScale scaling table
-
--- the table that the program made, at every tick the same
-abbrev pub table_fn : KeyTable → Targets
-table_fn t key onset = table_of t key
 
 -- a table of the scale and the mapping of a command
 abbrev pub TableFrom : Outside → Command → Targets → Type 0

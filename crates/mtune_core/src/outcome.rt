@@ -1,9 +1,10 @@
 ghost use Rattle.std.specs.Prelude.{◌≡◌};
 ghost use Rattle.mtune_core.specs.Status.{status_of};
-ghost use Rattle.mtune_core.specs.Causes.{of_memory, of_scale, of_mapping, of_tuning, of_file};
+ghost use Rattle.mtune_core.specs.Causes.{of_memory, of_scale, of_mapping, of_tuning, of_file, of_step};
 
 use kbm_text::{KbmFault, KbmKind};
 use key_pitch::TuneFault;
+use lifetimes::{SourceFault, StepFault};
 use midi_model::SmfKind;
 use mt_base::Memory;
 use mtune_files::Which;
@@ -22,8 +23,6 @@ pub struct Outcome {
 pub enum Fault {
     /// The words aren't those of the command.
     Usage { kind: u8 },
-    /// What isn't built yet: 2 an event, 3 a key that the device can't play.
-    NotYet { kind: u8 },
     Load { which: Which },
     TooLong { which: Which },
     Scl { line: u32, kind: SclKind },
@@ -31,6 +30,8 @@ pub enum Fault {
     ReferenceUnmapped { key: u8 },
     TooManyPeriods { key: u8 },
     Smf { offset: u32, kind: SmfKind },
+    /// What the input may not hold.
+    Source(SourceFault),
     Store,
     Say,
     Memory,
@@ -42,13 +43,13 @@ pub fn status(fault: &Fault) -> u8
 {
     match fault {
         Fault::Usage { .. } => 1,
-        Fault::NotYet { .. }
-        | Fault::TooLong { .. }
+        Fault::TooLong { .. }
         | Fault::Scl { .. }
         | Fault::Kbm { .. }
         | Fault::ReferenceUnmapped { .. }
         | Fault::TooManyPeriods { .. }
-        | Fault::Smf { .. } => 2,
+        | Fault::Smf { .. }
+        | Fault::Source(_) => 2,
         Fault::Load { .. } | Fault::Store | Fault::Say => 3,
         Fault::Memory => 4,
     }
@@ -102,6 +103,17 @@ impl From<SmfFault> for Fault {
         match fault {
             SmfFault::At { offset, kind } => Fault::Smf { offset, kind },
             SmfFault::Memory => Fault::Memory,
+        }
+    }
+}
+
+impl From<StepFault> for Fault {
+    ghost from_gives = { λ fault given. given ≡ of_step fault };
+
+    fn from(fault: StepFault) -> Fault {
+        match fault {
+            StepFault::Source(fault) => Fault::Source(fault),
+            StepFault::Memory => Fault::Memory,
         }
     }
 }

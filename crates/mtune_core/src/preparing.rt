@@ -1,12 +1,14 @@
 ghost use Rattle.std.specs.Prelude.{◌≡◌, IfOk, IfErr, OnOk};
+ghost use Rattle.key_pitch.specs.Aims.{by_onset};
+ghost use Rattle.lifetimes.specs.Views.{options_of};
 ghost use Rattle.mtune_files.specs.Outside.{after_load};
 ghost use Rattle.mtune_core.specs.Call.{IsPrepared, CommandCause, after_loads};
-ghost use Rattle.mtune_core.specs.Command.{Named, view_choice, view_command};
+ghost use Rattle.mtune_core.specs.Command.{IsPlain, Named, view_choice, view_command};
 ghost use Rattle.mtune_core.specs.Contents.{ContentCause};
 ghost use Rattle.mtune_core.specs.Limits.{text_limit, input_limit};
 ghost use Rattle.mtune_core.specs.Made.{MadeFrom};
 ghost use Rattle.mtune_core.specs.Retuned.{InputCause};
-ghost use Rattle.mtune_core.specs.Table.{IsScaleAt, IsMappingAt, ScaleCause, MapCause, MappingCause, table_fn, TableFrom, TableCause, after_mapping, after_texts};
+ghost use Rattle.mtune_core.specs.Table.{IsScaleAt, IsMappingAt, ScaleCause, MapCause, MappingCause, TableFrom, TableCause, after_mapping, after_texts};
 
 use crate::loading::{INPUT_LIMIT, TEXT_LIMIT, load};
 use crate::outcome::Fault;
@@ -16,6 +18,7 @@ use crate::table::key_table;
 use crate::words::{Command, MapChoice};
 use kbm_text::Mapping;
 use key_pitch::KeyTable;
+use lifetimes::Options;
 use mtune_files::{Files, Which};
 use scl_text::Scale;
 use std::alloc::Global;
@@ -71,7 +74,7 @@ fn load_table<F: Files>(
     files: &mut F,
 ) -> Result<KeyTable, Fault>
     ensures table { IfOk result (λ t. TableFrom (F.outside files.old)
-        (view_command command.now) (table_fn t)) }
+        (view_command command.now) (by_onset t)) }
     ensures loaded { OnOk result (F.outside files.new
         ≡ after_texts (view_command command.now) (F.outside files.old)) }
     ensures cause { IfErr result (λ e. TableCause (view_command command.now)
@@ -87,21 +90,24 @@ fn load_input<F: Files>(
     alloc: Global,
     files: &mut F,
     name: &str,
+    options: Options,
     table: &KeyTable,
 ) -> Result<Made, Fault>
-    ensures made { IfOk result (λ made. MadeFrom (F.outside files.old) name.now
-        (table_fn table.now) made.output.items made.report.items) }
+    requires { IsPlain (options_of options) }
+    ensures made { IfOk result (λ made. MadeFrom (F.outside files.old) name.now (options_of options)
+        (by_onset table.now) made.output.items made.report.items) }
     ensures loaded { OnOk result
         (F.outside files.new ≡ after_load Which.Input (F.outside files.old)) }
     ensures cause { IfErr result (λ e. ContentCause Which.Input name.now input_limit
-        (InputCause (table_fn table.now)) (F.outside files.old) (F.outside files.new) e) }
+        (InputCause (options_of options) (by_onset table.now)) (F.outside files.old) (F.outside files.new) e) }
 {
     let input = load(alloc, files, Which::Input, name, INPUT_LIMIT)?;
-    retuned(alloc, table, &input)
+    retuned(alloc, options, table, &input)
 }
 
 /// All that comes before the store.
 pub fn prepare<F: Files>(alloc: Global, command: &Command<'_>, files: &mut F) -> Result<Made, Fault>
+    requires { IsPlain (view_command command.now).options }
     ensures made { IfOk result (λ made. IsPrepared (F.outside files.old) (view_command command.now)
         made.output.items made.report.items) }
     ensures loaded { OnOk result (F.outside files.new
@@ -110,5 +116,5 @@ pub fn prepare<F: Files>(alloc: Global, command: &Command<'_>, files: &mut F) ->
         (F.outside files.old) (F.outside files.new) e) }
 {
     let table = load_table(alloc, command, files)?;
-    load_input(alloc, files, command.input, &table)
+    load_input(alloc, files, command.input, command.options, &table)
 }

@@ -1,138 +1,93 @@
-ghost use Rattle.std.specs.Prelude.{◌≡◌, ◌≤◌, ◌++◌, ◌+◌, length, codes, decimal, IfOk};
-ghost use Rattle.mtune_core.specs.Lines.{fault_line, which_name, report_text};
+ghost use Rattle.std.specs.Prelude.{◌<◌, ◌≤◌, if◌then◌else◌, ◌≡◌, ◌++◌, List, length, filter, IfOk, OnOk};
+ghost use Rattle.mt_base.specs.Midi.{MidiEvent};
+ghost use Rattle.retune_model.specs.Dump.{from_up};
+ghost use Rattle.retune_model.specs.Options.{Options as Asked};
+ghost use Rattle.key_pitch.specs.Aims.{by_onset};
+ghost use Rattle.receiver.specs.Notes.{has};
+ghost use Rattle.lifetimes.specs.Noted.{IsNoted};
+ghost use Rattle.lifetimes.specs.Views.{route_of, options_of};
+ghost use Rattle.mtune_core.specs.Lines.{route_line, count_lines};
+ghost use Rattle.mtune_core.specs.Report.{channels_of, report_of};
+ghost use Rattle.mtune_core.specs.Survey.{IsFound};
 
-use crate::outcome::Fault;
-use arrayvec::ArrayString;
-use itoa::Buffer;
+use crate::lines::one;
+use crate::survey::Found;
+use key_pitch::KeyTable;
+use key_report::{key_laws, push_keys, push_whole};
+use lifetimes::{Noted, Options, Route};
 use mt_base::Memory;
-use mtune_files::Which;
 use std::alloc::Global;
 
-/// Room for each line of a fault.
-pub type Line = ArrayString<128>;
-
-/// Appends a text and a number.
-fn push(line: &mut Line, text: &str, number: u32)
-    requires { length line.old.bytes + length text.now ≤ 88 }
-    ensures text { line.new.bytes ≡ line.old.bytes ++ text.now ++ decimal number }
-    ensures short { length line.new.bytes ≤ length line.old.bytes + length text.now + 10 }
+/// 1, where a mask has a channel, and else 0.
+fn one_if(mask: u16, channel: u8) -> u32
+    requires { channel < 16 }
+    ensures { result ≡ (if has mask channel then 1 else 0) }
 {
-    line.push_str(text);
-    line.push_str(Buffer::new().format(number));
+    u32::from(mask >> channel & 1 == 1)
 }
 
-/// A line of a text and a number.
-fn one(text: &str, number: u32) -> Line
-    requires { length text.now ≤ 40 }
-    ensures { result.bytes ≡ text.now ++ decimal number ++ codes "\n" }
+/// How many channels a mask has.
+fn channels_in(mask: u16) -> u32
+    ensures count { result ≡ length (filter (λ c. has mask c) (from_up 0 16)) }
+    ensures few { result ≤ 16 }
 {
-    let mut line = Line::new();
-    push(&mut line, text, number);
-    line.push_str("\n");
-    line
-}
-
-/// A line of a text and a number, and again.
-fn two(text: &str, number: u32, then: &str, other: u32) -> Line
-    requires text { length text.now ≤ 40 }
-    requires more { length then.now ≤ 10 }
-    ensures { result.bytes ≡ text.now ++ decimal number ++ then.now ++ decimal other ++ codes "\n" }
-{
-    let mut line = Line::new();
-    push(&mut line, text, number);
-    push(&mut line, then, other);
-    line.push_str("\n");
-    line
-}
-
-/// A line about a content.
-fn about(text: &str, which: Which) -> Line
-    requires { length text.now ≤ 40 }
-    ensures { result.bytes ≡ text.now ++ which_name which ++ codes "\n" }
-{
-    let mut line = Line::new();
-    line.push_str(text);
-    line.push_str(match which {
-        Which::Scale => "scale",
-        Which::Map => "map",
-        Which::Input => "input",
-    });
-    line.push_str("\n");
-    line
-}
-
-/// A line of a text, a number and the rest of the line.
-fn around(text: &str, number: u32, rest: &str) -> Line
-    requires text { length text.now ≤ 40 }
-    requires rest { length rest.now ≤ 40 }
-    ensures { result.bytes ≡ text.now ++ decimal number ++ rest.now }
-{
-    let mut line = Line::new();
-    push(&mut line, text, number);
-    line.push_str(rest);
-    line
-}
-
-/// A line of a text alone.
-fn plain(text: &str) -> Line
-    requires { length text.now ≤ 40 }
-    ensures { result.bytes ≡ text.now }
-{
-    let mut line = Line::new();
-    line.push_str(text);
-    line
-}
-
-/// The line of a fault, with its line feed; `Say` has none. It takes no memory.
-pub fn line_of(fault: &Fault) -> Line
-    ensures { result.bytes ≡ fault_line fault.now }
-{
-    match fault {
-        Fault::Usage { kind } => one("mtune: usage ", u32::from(*kind)),
-        Fault::NotYet { kind } => one("mtune: not yet ", u32::from(*kind)),
-        Fault::Load { which } => about("mtune: cannot load ", *which),
-        Fault::TooLong { which } => about("mtune: too long ", *which),
-        Fault::Scl { line, kind } => two(
-            "mtune: scale line ",
-            *line,
-            " kind ",
-            u32::from(kind.number()),
-        ),
-        Fault::Kbm { line, kind } => two(
-            "mtune: map line ",
-            *line,
-            " kind ",
-            u32::from(kind.number()),
-        ),
-        Fault::ReferenceUnmapped { key } => around(
-            "mtune: reference key ",
-            u32::from(*key),
-            " is not mapped\n",
-        ),
-        Fault::TooManyPeriods { key } => around(
-            "mtune: key ",
-            u32::from(*key),
-            " has more than 1700 ratio terms\n",
-        ),
-        Fault::Smf { offset, kind } => two(
-            "mtune: input byte ",
-            *offset,
-            " kind ",
-            u32::from(kind.number()),
-        ),
-        Fault::Store => plain("mtune: cannot store\n"),
-        Fault::Say => Line::new(),
-        Fault::Memory => plain("mtune: out of memory\n"),
+    let mut count = 0;
+    for channel in 0..16u8 {
+        count += one_if(mask, channel);
     }
+    count
 }
 
-/// The report: the route, the number of retuned notes, the number of their channels.
-pub fn report(alloc: Global, notes: u32, channels: u32) -> Result<Vec<u8>, Memory>
-    ensures { IfOk result (λ text. text.items ≡ report_text notes channels) }
+/// How many channels of all ports have retuned notes.
+fn channels(noted: &Noted) -> u32
+    ensures { (o : Asked) (es : List MidiEvent) → IsNoted o es noted.now
+        → result ≡ channels_of o es }
 {
-    let mut text = Vec::new(alloc);
-    text.extend_from_slice(b"route dump\n")?;
+    let mut count = 0;
+    for port in 0..256u16 {
+        count += channels_in(noted.parts(port as u8));
+    }
+    count
+}
+
+/// Appends the line of a route.
+fn push_route(text: &mut Vec<u8>, route: Route) -> Result<(), Memory>
+    ensures { OnOk result (text.new.items ≡ text.old.items ++ route_line (route_of route)) }
+{
+    let line: &[u8] = match route {
+        Route::Dump => b"route dump\n",
+        Route::Live => b"route live\n",
+        Route::Bend => b"route bend\n",
+        Route::Mpe => b"route mpe\n",
+    };
+    text.extend_from_slice(line)?;
+    Ok(())
+}
+
+/// Appends the lines of the number of retuned notes, and of that of their channels.
+fn push_counts(text: &mut Vec<u8>, notes: u32, channels: u32) -> Result<(), Memory>
+    ensures { OnOk result (text.new.items ≡ text.old.items ++ count_lines notes channels) }
+{
     text.extend_from_slice(one("notes ", notes).as_str().as_bytes())?;
     text.extend_from_slice(one("channels ", channels).as_str().as_bytes())?;
+    Ok(())
+}
+
+/// The report on a source, by what was found of it.
+pub fn report(
+    alloc: Global,
+    options: Options,
+    table: &KeyTable,
+    found: &Found,
+) -> Result<Vec<u8>, Memory>
+    ensures { (es : List MidiEvent) → IsFound (options_of options) es found.now
+        → IfOk result (λ text. text.items ≡ report_of (options_of options) (by_onset table.now) es) }
+{
+    key_laws();
+    let mut text = Vec::new(alloc);
+    push_route(&mut text, options.route)?;
+    let whole = push_keys(table, found.keys, &mut text)?;
+    push_counts(&mut text, found.notes, channels(&found.noted))?;
+    push_whole(&mut text, whole)?;
     Ok(text)
 }

@@ -1,68 +1,87 @@
-ghost use Rattle.std.specs.Prelude.{◌≡◌, ◌≤◌, ◌<◌, ◌-◌, ◌^◌, length};
-ghost use Rattle.mt_base.specs.Midi.{view, view_what};
-ghost use Rattle.mt_base.specs.Valid.{IsValidEvent};
+ghost use Rattle.std.specs.Prelude.{◌≡◌, ◌≤◌, ◌<◌, ◌++◌, [], ◌∷◌, List, length, IfOk, IfErr, IfSome};
 ghost use Rattle.std.specs.List.{AllByRecursion};
-ghost use Rattle.mtune_core.specs.Survey.{nothing, with_event, survey_of};
+ghost use Rattle.mt_base.specs.Midi.{MidiEvent, view};
+ghost use Rattle.mt_base.specs.Valid.{IsValidEvent};
+ghost use Rattle.midi_model.specs.Order.{AreInOrder};
+ghost use Rattle.retune_model.specs.Options.{Options};
+ghost use Rattle.retune_model.specs.Faults.{Targets};
+ghost use Rattle.retune_model.specs.SourceFaults.{first_fault};
+ghost use Rattle.lifetimes.specs.Stands.{Stands, asked, table_in};
+ghost use Rattle.lifetimes.specs.Told.{TellsChange, told_fault, IsCaused};
+ghost use Rattle.mtune_core.specs.Survey.{IsFound};
 
-use crate::source::{is_taken, note_on};
 use event_stream::EventStream;
-use mt_base::Event;
+use key_pitch::Aims;
+use lifetimes::{Change, Noted, Parts, StepFault};
+use retune_model::{fault_laws, front_faults};
 
-/// What the whole source has.
-#[derive(Clone, Copy, Debug)]
-pub struct Survey {
-    /// How many notes its retuned parts have.
+/// What the retuned parts of a whole source have.
+#[derive(Drop)]
+pub struct Found {
+    /// Which of them have a note on.
+    pub noted: Noted,
+    /// How many notes they have.
     pub notes: u32,
-    /// Which retuned parts, by channel, have a note on.
-    pub parts: [bool; 16],
-    /// Which keys a retuned part has a note on of.
-    pub keys: [bool; 128],
-    /// Whether each event is one that is taken.
-    pub taken: bool,
+    /// Which keys they have a note on of: a bit for each.
+    pub keys: u128,
 }
 
-impl Survey {
+impl Found {
     /// Of no events.
-    fn new() -> Survey
-        ensures { result ≡ nothing }
+    fn new() -> Found
+        ensures { (o : Options) → IsFound o [] result }
     {
-        Survey {
+        Found {
+            noted: Noted::new(),
             notes: 0,
-            parts: [false; 16],
-            keys: [false; 128],
-            taken: true,
+            keys: 0,
         }
     }
 
-    /// With one event more.
-    fn see(&mut self, event: &Event<'_>)
-        requires room { self.old.notes < 2 ^ 32 - 1 }
-        requires valid { IsValidEvent (view event.now) }
-        ensures { self.new ≡ with_event self.old (view event.now) }
+    /// With one event more, by what it did.
+    fn take(&mut self, change: &Change)
+        requires key { IfSome change.now.begun (λ b. b.key < 128) }
+        ensures { (o : Options) (table : Targets) (es : List MidiEvent) (e : MidiEvent)
+            → TellsChange o table es e change.now → IsFound o es self.old
+            → IsFound o (es ++ e ∷ []) self.new }
     {
-        if !is_taken(&event.what) {
-            self.taken = false;
-        }
-        if let Some((part, key)) = note_on(&event.what) {
-            self.notes += 1;
-            self.parts[part.number() as usize] = true;
-            self.keys[key as usize] = true;
+        self.noted.take(change);
+        if let Some(begun) = change.begun {
+            self.notes = begun.note;
+            self.keys |= 1 << begun.key;
         }
     }
 }
 
-/// Goes through all events of a stream.
-#[tactic(auto, unfolding(crate::specs::Survey::survey_from))]
-pub fn look_through<'a, S: EventStream<'a>>(stream: &mut S) -> Survey
+/// Goes through all events of a stream, and finds the first fault of them or what they have. The
+/// parts are new.
+pub fn survey<'a, S: EventStream<'a>, T: Aims>(
+    stream: &mut S,
+    parts: &mut Parts<T>,
+) -> Result<Found, StepFault>
+    requires restless { (asked parts.old).tail ≡ 0 }
+    requires start { Stands (T.table (table_in parts.old)) parts.old [] }
+    requires valid { AllByRecursion IsValidEvent (S.all stream.old) }
+    requires order { AreInOrder 0 (S.all stream.old) }
+    requires tracks { AllByRecursion (λ e. e.track < 1024) (S.all stream.old) }
     requires few { length (S.all stream.old) ≤ 2097152 }
-    requires valid { AllByRecursion (λ e. IsValidEvent e) (S.all stream.old) }
     ensures all { S.all stream.new ≡ S.all stream.old }
-    ensures found { result ≡ survey_of (S.all stream.old) }
+    ensures table { table_in parts.new ≡ table_in parts.old }
+    ensures options { asked parts.new ≡ asked parts.old }
+    ensures found { IfOk result (λ f. IsFound (asked parts.old) (S.all stream.old) f) }
+    ensures fault { told_fault result
+        ≡ first_fault (asked parts.old) (T.table (table_in parts.old)) (S.all stream.old) }
+    ensures memory { IfErr result (λ f. IsCaused (asked parts.old).tail f) }
 {
+    fault_laws();
+    front_faults();
     stream.rewind();
-    let mut found = Survey::new();
+    let mut found = Found::new();
+    let mut position = 0;
     'events: while let Some(event) = stream.next() {
-        found.see(&event);
+        position += 1;
+        let change = parts.step(position, &event)?;
+        found.take(&change);
     }
-    found
+    Ok(found)
 }

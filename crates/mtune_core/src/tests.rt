@@ -1,5 +1,6 @@
 mod dumped;
 mod failing;
+mod live;
 mod mapped;
 mod refused;
 
@@ -18,6 +19,9 @@ const ONE_NOTE: [u8; 35] = [
     0x72, 0x6b, 0x00, 0x00, 0x00, 0x0d, 0x00, 0x90, 0x45, 0x40, 0x83, 0x60, 0x80, 0x45, 0x40, 0x00,
     0xff, 0x2f, 0x00,
 ];
+
+/// What is said of one note of key 69 in twelve equal steps.
+const SAID: &str = "route dump\nkey 69 to 45 00 00 error 0.000 to 0.000\nnotes 1\nchannels 1\nerror 0.000 to 0.000\n";
 
 const WORDS: [&str; 8] = [
     "--scale", "e12.scl", "--a440", "--route", "dump", "--out", "out.mid", "in.mid",
@@ -122,8 +126,7 @@ fn check(
 
 /// Checks that an output of one note was stored.
 fn check_done(rt: &impl Abort, files: &MemFiles, outcome: Outcome, output: &[u8]) {
-    let said = "route dump\nnotes 1\nchannels 1\n";
-    check(rt, files, outcome, None, 0, said, Some(output));
+    check(rt, files, outcome, None, 0, SAID, Some(output));
 }
 
 /// Checks that a call is refused, and that no name has another content after it.

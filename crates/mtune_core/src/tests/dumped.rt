@@ -1,8 +1,9 @@
 use super::{
-    E12, ONE_NOTE, SELECT, WORDS, check, check_done, dump_event, file, file_divided, files, joined,
+    E12, ONE_NOTE, SAID, SELECT, WORDS, check, check_done, dump_event, file, file_divided, files, joined,
     one_note_output,
 };
 use crate::{Fault, run};
+use lifetimes::{SourceFault, SourceKind};
 use std::test::Fail;
 
 #[test]
@@ -83,15 +84,22 @@ fn output_takes_the_place_of_the_input(rt: HostRuntime) -> Result<(), Fail> {
         "--scale", "e12.scl", "--a440", "--route", "dump", "--out", "in.mid", "in.mid",
     ];
     let outcome = run(alloc, words.as_slice(), &mut files);
-    let said = "route dump\nnotes 1\nchannels 1\n";
-    check(&rt, &files, outcome, None, 0, said, None);
+    check(&rt, &files, outcome, None, 0, SAID, None);
     let output = one_note_output(alloc)?;
     assert!(rt; files.content("in.mid") == Some(output.as_slice()));
-    // an output isn't taken as an input yet: it tells a tuning
+    // an output isn't taken as an input: it tells a tuning
     let outcome = run(alloc, words.as_slice(), &mut files);
-    let fault = Fault::NotYet { kind: 2 };
-    let said = "route dump\nnotes 1\nchannels 1\nmtune: not yet 2\n";
-    check(&rt, &files, outcome, Some(fault), 2, said, None);
+    let fault = Fault::Source(SourceFault {
+        position: 1,
+        tick: 0,
+        track: 0,
+        kind: SourceKind::TuningInSource,
+    });
+    let line = b"mtune: input event 1 tick 0 track 0 kind 7\n";
+    let said = joined(alloc, &[SAID.as_bytes(), line])?;
+    assert_eq!(rt; outcome.status, 2);
+    assert!(rt; outcome.fault == Some(fault));
+    assert!(rt; files.text() == said.as_slice());
     assert!(rt; files.content("in.mid") == Some(output.as_slice()));
     Ok(())
 }
@@ -124,7 +132,7 @@ fn pieces_without_retuned_notes_stay(rt: HostRuntime) -> Result<(), Fail> {
         let mut files = files(alloc, E12, input.as_slice())?;
         let outcome = run(alloc, WORDS.as_slice(), &mut files);
         let output = file_divided(alloc, 0, 1, division, &[wanted])?;
-        let said = "route dump\nnotes 0\nchannels 0\n";
+        let said = "route dump\nnotes 0\nchannels 0\nerror none\n";
         check(&rt, &files, outcome, None, 0, said, Some(output.as_slice()));
     }
     Ok(())

@@ -1,6 +1,7 @@
 use super::{E12, ONE_NOTE, SELECT, blanks, check, check_done, file, joined, one_note_output};
 use crate::{Fault, run};
 use kbm_text::KbmKind;
+use lifetimes::{SourceFault, SourceKind};
 use mtune_files::{MemFiles, Which};
 use scl_text::SclKind;
 use std::alloc::Global;
@@ -101,7 +102,38 @@ fn each_mapping_has_its_pitches(rt: HostRuntime) -> Result<(), Fail> {
     // in twelve equal steps the standard mapping is that at 440 Hz
     let mut files = files(alloc, E12, "", &ONE_NOTE)?;
     let outcome = run(alloc, STANDARD.as_slice(), &mut files);
-    check_done(&rt, &files, outcome, one_note_output(alloc)?.as_slice());
+    assert!(rt; outcome.fault.is_none());
+    assert!(rt; files.content("out.mid") == Some(one_note_output(alloc)?.as_slice()));
+    Ok(())
+}
+
+#[test]
+fn each_key_has_its_error(rt: HostRuntime) -> Result<(), Fail> {
+    let alloc = rt.alloc();
+    // a third of 5/4, which a device can't be told exactly; a pitch between two keys
+    let rows: [(&[&str], &str, u8, &str); 2] = [
+        (
+            &STANDARD,
+            J12,
+            64,
+            "route dump\nkey 64 to 3F 6E 3E error 0.002 to 0.003\nnotes 1\nchannels 1\nerror 0.002 to 0.003\n",
+        ),
+        (
+            &AT_440,
+            "two\n2\n50.0\n1200.0\n",
+            70,
+            "route dump\nkey 70 to 45 40 00 error 0.000 to 0.000\nnotes 1\nchannels 1\nerror 0.000 to 0.000\n",
+        ),
+    ];
+    for (words, scale, key, said) in rows {
+        let mut input = ONE_NOTE;
+        input[24] = key;
+        input[29] = key;
+        let mut files = files(alloc, scale, "", &input)?;
+        let outcome = run(alloc, words, &mut files);
+        assert!(rt; outcome.fault.is_none());
+        assert!(rt; files.text() == said.as_bytes());
+    }
     Ok(())
 }
 
@@ -214,8 +246,13 @@ fn mappings_that_give_no_table_are_refused(rt: HostRuntime) -> Result<(), Fail> 
         &rt,
         alloc,
         (E12, GAP, input.as_slice()),
-        Fault::NotYet { kind: 3 },
-        ["mtune: not yet ", "3"],
+        Fault::Source(SourceFault {
+            position: 1,
+            tick: 0,
+            track: 0,
+            kind: SourceKind::UnmappedKey,
+        }),
+        ["mtune: input event 1 tick 0 track 0 ", "kind 1"],
     )
 }
 

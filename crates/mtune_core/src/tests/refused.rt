@@ -1,5 +1,6 @@
 use super::{E12, ONE_NOTE, WORDS, blanks, check, check_refused, file, files};
 use crate::{Fault, run};
+use lifetimes::{SourceFault, SourceKind};
 use midi_model::SmfKind;
 use mtune_files::Which;
 use scl_text::SclKind;
@@ -25,7 +26,7 @@ fn no_words_are_refused(rt: HostRuntime) -> Result<(), Fail> {
 
 #[test]
 fn wrong_words_are_refused(rt: HostRuntime) -> Result<(), Fail> {
-    let cases: [&[&str]; 7] = [
+    let cases: [&[&str]; 12] = [
         // no input
         &WORDS[..7],
         // one word more
@@ -48,6 +49,29 @@ fn wrong_words_are_refused(rt: HostRuntime) -> Result<(), Fail> {
         // another route
         &[
             "--scale", "e12.scl", "--a440", "--route", "loud", "--out", "out.mid", "in.mid",
+        ],
+        // drums that are neither kept nor retuned
+        &[
+            "--scale", "e12.scl", "--a440", "--route", "live", "--drums", "mute", "--out",
+            "out.mid", "in.mid",
+        ],
+        // programs that are too great, or no digits, or none
+        &[
+            "--scale", "e12.scl", "--a440", "--route", "dump", "--program", "128", "--out",
+            "out.mid", "in.mid",
+        ],
+        &[
+            "--scale", "e12.scl", "--a440", "--route", "dump", "--program", "+1", "--out",
+            "out.mid", "in.mid",
+        ],
+        &[
+            "--scale", "e12.scl", "--a440", "--route", "dump", "--program", "", "--out", "out.mid",
+            "in.mid",
+        ],
+        // drums behind the program
+        &[
+            "--scale", "e12.scl", "--a440", "--route", "dump", "--program", "1", "--drums", "keep",
+            "--out", "out.mid", "in.mid",
         ],
         // an option in place of a name
         &[
@@ -175,44 +199,81 @@ fn formats_above_1_are_refused(rt: HostRuntime) -> Result<(), Fail> {
     Ok(())
 }
 
+/// A fault of an event of the first track, at tick 0.
+fn at_event(position: u32, kind: SourceKind) -> Fault {
+    Fault::Source(SourceFault {
+        position,
+        tick: 0,
+        track: 0,
+        kind,
+    })
+}
+
 #[test]
-fn what_is_not_taken_yet_is_refused(rt: HostRuntime) -> Result<(), Fail> {
-    let alloc = rt.alloc();
-    let words = WORDS.as_slice();
-    // a reset of the receiver; data entry on a part that is retuned
-    let rows: [&[u8]; 2] = [
-        b"\x00\xf0\x05\x7e\x7f\x09\x01\xf7\x00\xff\x2f\x00",
-        b"\x00\xb0\x06\x02\x00\xff\x2f\x00",
-    ];
-    for content in rows {
-        let input = file(alloc, 0, 1, &[content])?;
-        let fault = Fault::NotYet { kind: 2 };
-        check_refused(
-            &rt,
-            alloc,
-            E12,
-            input.as_slice(),
-            words,
-            fault,
+fn what_a_source_may_not_hold_is_refused(rt: HostRuntime) -> Result<(), Fail> {
+    // the selection of the tuning program; of the number of members; data increment; mono; a bulk dump; a port behind another
+    let rows: [(&[u8], u32, SourceKind, &str); 6] = [
+        (
+            b"\x00\xb0\x65\x00\x00\x64\x03\x00\x06\x01\x00\xff\x2f\x00",
+            3,
+            SourceKind::TuningInSource,
+            "3 tick 0 track 0 kind 7",
+        ),
+        (
+            b"\x00\xb0\x65\x00\x00\x64\x06\x00\x06\x01\x00\xff\x2f\x00",
+            3,
+            SourceKind::MpeSource,
+            "3 tick 0 track 0 kind 8",
+        ),
+        (
+            b"\x00\xb0\x60\x01\x00\xff\x2f\x00",
+            1,
+            SourceKind::DataStep,
+            "1 tick 0 track 0 kind 6",
+        ),
+        (
+            b"\x00\xb0\x7e\x01\x00\xff\x2f\x00",
+            1,
+            SourceKind::ModeMessage,
+            "1 tick 0 track 0 kind 5",
+        ),
+        (
+            b"\x00\xff\x21\x01\x00\x00\xff\x21\x01\x01\x00\xff\x2f\x00",
             2,
-            ["mtune: not yet ", "2"],
-        )?;
+            SourceKind::Port,
+            "2 tick 0 track 0 kind 9",
+        ),
+        // key 69 is at 6,900 cents, so in steps of an octave key 63 is 300 cents below the device's lowest pitch
+        (
+            b"\x00\x90\x3f\x40\x10\x80\x3f\x40\x00\xff\x2f\x00",
+            1,
+            SourceKind::KeyOutOfDevice,
+            "1 tick 0 track 0 kind 2",
+        ),
+    ];
+    let alloc = rt.alloc();
+    for (content, position, kind, rest) in rows {
+        let input = file(alloc, 0, 1, &[content])?;
+        let fault = at_event(position, kind);
+        let line = ["mtune: input event ", rest];
+        let octaves = "octaves\n1\n1200.0\n";
+        check_refused(&rt, alloc, octaves, input.as_slice(), &WORDS, fault, 2, line)?;
     }
-    // key 69 is at 6,900 cents, so in steps of an octave key 63 is 300 cents below the device's lowest pitch
-    let low = file(
-        alloc,
-        0,
-        1,
-        &[b"\x00\x90\x3f\x40\x10\x80\x3f\x40\x00\xff\x2f\x00"],
-    )?;
-    check_refused(
-        &rt,
-        alloc,
-        "octaves\n1\n1200.0\n",
-        low.as_slice(),
-        words,
-        Fault::NotYet { kind: 3 },
-        2,
-        ["mtune: not yet ", "3"],
-    )
+    Ok(())
+}
+
+#[test]
+fn fifth_ports_are_refused(rt: HostRuntime) -> Result<(), Fail> {
+    let alloc = rt.alloc();
+    let tracks: [[u8; 18]; 5] = [0, 1, 2, 3, 4].map(super::live::note_of_port);
+    let [a, b, c, d, e] = &tracks;
+    let input = file(alloc, 1, 5, &[a, b, c, d, e])?;
+    let fault = Fault::Source(SourceFault {
+        position: 10,
+        tick: 0,
+        track: 4,
+        kind: SourceKind::Port,
+    });
+    let line = ["mtune: input event ", "10 tick 0 track 4 kind 9"];
+    check_refused(&rt, alloc, E12, input.as_slice(), &WORDS, fault, 2, line)
 }

@@ -8,5 +8,8 @@ returns c = accepted_is_not_refused (record {
   one_mapping = λ lines. (c.one_answer-2.ensures lines).one_value;
   no_mapping_fault = λ lines. (c.one_answer-2.ensures lines).never_both;
   one_file = c.file_laws.ensures.one_file;
+  playable = c.file_laws.ensures.playable;
+  ends = c.ends.ensures.in_order;
+  first = c.fault_laws.ensures.some;
   no_file_fault = c.file_laws.ensures.never_both;
 })

@@ -18,19 +18,19 @@ stopped o now words c fault e h = (c, e, h)
 
 pub returns-in_err-made-clause-stopped : goal.returns-in_err-made-clause-stopped
 returns-in_err-made-clause-stopped g c = handed_on c.from_residual.result c.in_err-made.field-0.0 _ c.from_residual.ensures.1
-    (stopped (g.F.Files.outside c.args.files.now) (g.F.Files.outside c.prepare.new.files) (texts c.args.words.now) (view_command c.in-Some.command) c.in_err-made.field-0.0 (sym c.in-Some.ensures) c.in_err-made.ensures.cause)
+    (stopped (g.F.Files.outside c.args.files.now) (g.F.Files.outside c.prepare.new.files) (texts c.args.words.now) (view_command c.in-Some.command) c.in_err-made.field-0.0 (sym c.in-Some.ensures.found) c.in_err-made.ensures.cause)
 
 pub returns-then-is_err-clause-stopped : goal.returns-then-is_err-clause-stopped
 returns-then-is_err-clause-stopped g c =
     let made : IsMade (g.F.Files.outside c.args.files.now) (texts c.args.words.now) = made_for (g.F.Files.outside c.args.files.now) (texts c.args.words.now) (view_command c.in-Some.command) c.in_ok-made.made.output.items c.in_ok-made.made.report.items
-    (sym c.in-Some.ensures) c.in_ok-made.ensures.made in
+    (sym c.in-Some.ensures.found) c.in_ok-made.ensures.made in
     let failed : AfterFailedStore made.command.out (g.F.Files.outside c.prepare.new.files) (g.F.Files.outside c.store.new.self) = of_err c.store.result c.if-is_err.ensures.value c.store.ensures.failed in
     (made, subst (λ o. AfterFailedStore made.command.out o (g.F.Files.outside c.store.new.self)) c.in_ok-made.ensures.loaded failed)
 
 pub returns-then-is_err-2-clause-stopped : goal.returns-then-is_err-2-clause-stopped
 returns-then-is_err-2-clause-stopped g c =
     let made : IsMade (g.F.Files.outside c.args.files.now) (texts c.args.words.now) = made_for (g.F.Files.outside c.args.files.now) (texts c.args.words.now) (view_command c.in-Some.command) c.in_ok-made.made.output.items c.in_ok-made.made.report.items
-    (sym c.in-Some.ensures) c.in_ok-made.ensures.made in
+    (sym c.in-Some.ensures.found) c.in_ok-made.ensures.made in
     let stored = is_stored (g.F.Files.outside c.args.files.now) (g.F.Files.outside c.prepare.new.files) (g.F.Files.outside c.store.new.self) made.command made.command.out made.output c.deref.result.now
     c.in_ok-made.ensures.loaded (of_ok c.store.result c.if-is_err.ensures.value c.store.ensures.stored) c.deref.ensures.value in
     let failed : AfterFailedSay c.deref-2.result.now (g.F.Files.outside c.store.new.self) (g.F.Files.outside c.say.new.self) = of_err c.say.result c.if-is_err-2.ensures.value c.say.ensures.failed in (
@@ -42,7 +42,7 @@ returns-then-is_err-2-clause-stopped g c =
 pub returns-clause-done : goal.returns-clause-done
 returns-clause-done g c =
     let made : IsMade (g.F.Files.outside c.args.files.now) (texts c.args.words.now) = made_for (g.F.Files.outside c.args.files.now) (texts c.args.words.now) (view_command c.in-Some.command) c.in_ok-made.made.output.items c.in_ok-made.made.report.items
-    (sym c.in-Some.ensures) c.in_ok-made.ensures.made in
+    (sym c.in-Some.ensures.found) c.in_ok-made.ensures.made in
     let stored = is_stored (g.F.Files.outside c.args.files.now) (g.F.Files.outside c.prepare.new.files) (g.F.Files.outside c.store.new.self) made.command made.command.out made.output c.deref.result.now
     c.in_ok-made.ensures.loaded (of_ok c.store.result c.if-is_err.ensures.value c.store.ensures.stored) c.deref.ensures.value in
     let said : g.F.Files.outside c.say.new.self ≡ after_say c.deref-2.result.now (g.F.Files.outside c.store.new.self) = of_ok c.say.result c.if-is_err-2.ensures.value c.say.ensures.said in

@@ -4,12 +4,13 @@ use Rattle.scl_text.specs.declared.entry.Entry.{Entry}
 use Rattle.kbm_text.specs.Map.{KeyMap}
 use Rattle.retune_model.specs.Scale.{above_middle}
 use Rattle.retune_model.specs.Table.{AreFewTerms, one_scale}
+use Rattle.key_pitch.specs.Aims.{by_onset}
 use Rattle.key_pitch.specs.declared.table.KeyTable.{KeyTable}
 use Rattle.mtune_files.specs.Outside.{Outside, after_load}
 use Rattle.mtune_files.specs.declared.which.Which.TheVariants.{Scale}
 use Rattle.mtune_core.specs.declared.outcome.Fault.{Fault}
 use Rattle.mtune_core.specs.Command.{Command, MapChoice, Named, At440, Standard, view_command}
-use Rattle.mtune_core.specs.Table.{IsScaleAt, IsMappingAt, IsOneTable, IsTuneFault, MappingCause, TableFrom, TableCause, table_fn, after_mapping, after_texts}
+use Rattle.mtune_core.specs.Table.{IsScaleAt, IsMappingAt, IsOneTable, IsTuneFault, MappingCause, TableFrom, TableCause, after_mapping, after_texts}
 use Rattle.mtune_core.proofs.Stages.{handed_on}
 use Rattle.mtune_core.proofs.preparing.load_table.Goals as goal
 
@@ -24,7 +25,7 @@ its_mapping o mid choice m loaded h = at_start choice o m (subst (λ p. IsMappin
 
 its_table : (r : Result KeyTable Fault) (o : Outside) (c : Command) (entries : List Entry) (m : KeyMap) → IsScaleAt o c.scale entries → IsMappingAt o c.mapping m
     → OnOk r (above_middle entries m m.reference ≢ None) → OnOk r (AreFewTerms (one_scale entries m))
-    → IfOk r (λ t. IsOneTable (one_scale entries m) (table_fn t)) → IfOk r (λ t. TableFrom o c (table_fn t))
+    → IfOk r (λ t. IsOneTable (one_scale entries m) (by_onset t)) → IfOk r (λ t. TableFrom o c (by_onset t))
 its_table (Ok t) o c entries m scale mapping mapped few is = (record { entries = entries; mapping = m; is_scale = scale; is_mapping = mapping; mapped = mapped; few = few }, is)
 its_table (Err e) o c entries m scale mapping mapped few is = tt
 

@@ -1,0 +1,26 @@
+use Rattle.std.proofs.Common.{◌≡◌, ◌++◌, List, ap, ◌∙◌}
+use Rattle.key_pitch.specs.Aims.{by_onset, table_of}
+use Rattle.key_report.specs.Keys.{is_used, key_errors, whole_error}
+use Rattle.key_report.specs.Texts.{key_lines, error_line}
+use Rattle.lifetimes.specs.Told.{count_begun}
+use Rattle.lifetimes.specs.Views.{route_of, options_of}
+use Rattle.mtune_core.specs.Lines.{route_line, count_lines}
+use Rattle.mtune_core.specs.Report.{channels_of, errors_of, uses_key}
+use Rattle.mtune_core.proofs.Said.{said}
+use Rattle.mtune_core.proofs.reporting.report.Goals as goal
+
+pub returns : goal.returns
+returns c = λ es found.
+    let o = options_of c.args.options in
+    let t = c.args.table.now in
+    let seen = key_errors (table_of t) (is_used c.args.found.now.keys) in
+    let wanted = errors_of o (by_onset t) es in
+    let same : seen ≡ wanted = c.key_laws.ensures.same (table_of t) (is_used c.args.found.now.keys) (λ key. uses_key o key es) found.keys in
+    let front = route_line (route_of c.args.options.route) in
+    let counts = count_lines c.args.found.now.notes c.channels.result in
+    said c.new-text.result.items c.push_route.new.text.items c.push_keys.new.out.items c.push_counts.new.text.items c.push_whole.new.text.items front (key_lines seen) counts (error_line c.in_ok-whole.whole)
+    c.new-text.ensures.items c.in_ok-push_route.ensures c.in_ok-whole.ensures.text c.in_ok-push_counts.ensures c.in_ok-push_whole.ensures
+    ∙ ap (λ w. front ++ key_lines seen ++ counts ++ error_line w) c.in_ok-whole.ensures.whole
+    ∙ ap (λ k. front ++ key_lines k ++ counts ++ error_line (whole_error k)) same
+    ∙ ap (λ n. front ++ key_lines wanted ++ count_lines n c.channels.result ++ error_line (whole_error wanted)) found.notes
+    ∙ ap (λ n. front ++ key_lines wanted ++ count_lines (count_begun o es) n ++ error_line (whole_error wanted)) (c.channels.ensures o es found.noted)
