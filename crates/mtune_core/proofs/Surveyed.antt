@@ -98,6 +98,7 @@ key_is_low o table es e change valid h = by_begun change.begun h.begun
         both true y p = p
         both false y p = absurd cc
     low what b g i = absurd (let no = i.key b.key ∙ eq-eqb b.key b.key refl in cc)
+
     by_begun : (x : Option Begun) → x ≡ begun_by o table (port_on es e) (suc (count_begun o es)) e.tick e.what → IfSome x (λ b. b.key < 128)
     by_begun None g = tt
     by_begun (Some b) g = low e.what b valid.what (begins o table (port_on es e) (suc (count_begun o es)) e.tick e.what b (sym g))

@@ -5,9 +5,9 @@ ghost use Rattle.mtune_core.specs.Call.{IsDone, IsStopped, IsTold, IsRefused};
 ghost use Rattle.mtune_core.specs.Command.{texts};
 
 use crate::accepted::accepted_has_no_fault;
+use crate::lines::line_of;
 use crate::outcome::{Fault, Outcome, status};
 use crate::preparing::prepare;
-use crate::lines::line_of;
 use crate::words::read_words;
 use mtune_files::Files;
 use std::alloc::Global;

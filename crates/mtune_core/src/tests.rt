@@ -21,7 +21,8 @@ const ONE_NOTE: [u8; 35] = [
 ];
 
 /// What is said of one note of key 69 in twelve equal steps.
-const SAID: &str = "route dump\nkey 69 to 45 00 00 error 0.000 to 0.000\nnotes 1\nchannels 1\nerror 0.000 to 0.000\n";
+const SAID: &str =
+    "route dump\nkey 69 to 45 00 00 error 0.000 to 0.000\nnotes 1\nchannels 1\nerror 0.000 to 0.000\n";
 
 const WORDS: [&str; 8] = [
     "--scale", "e12.scl", "--a440", "--route", "dump", "--out", "out.mid", "in.mid",

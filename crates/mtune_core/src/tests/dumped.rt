@@ -1,6 +1,6 @@
 use super::{
-    E12, ONE_NOTE, SAID, SELECT, WORDS, check, check_done, dump_event, file, file_divided, files, joined,
-    one_note_output,
+    E12, ONE_NOTE, SAID, SELECT, WORDS, check, check_done, dump_event, file, file_divided, files,
+    joined, one_note_output,
 };
 use crate::{Fault, run};
 use lifetimes::{SourceFault, SourceKind};

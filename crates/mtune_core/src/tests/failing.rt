@@ -1,4 +1,5 @@
-use super::{E12, ONE_NOTE, WORDS, check, files, one_note_output};
+use super::mapped::{GAP, MAPPED, files};
+use super::{E12, ONE_NOTE, WORDS, check};
 use crate::{Fault, run};
 use mtune_files::{MemFiles, Which};
 use std::alloc::Global;
@@ -24,16 +25,16 @@ fn counts(files: &MemFiles) -> [u64; 5] {
 /// name, and the counts.
 type Case<'a> = (&'a [(u32, u32)], Fault, &'a str, &'a [u8], [u64; 5]);
 
-/// The calls load the scale, load the input, store, and say; where one fails, the next says the line
-/// of the fault.
+/// The calls load the scale, the mapping and the input, store, and say; where one fails, the next
+/// says the line of the fault.
 fn check_failing(rt: &impl Abort, alloc: Global, case: Case<'_>) -> Result<(), Fail> {
     let (calls, fault, said, held, counted) = case;
-    let mut files = files(alloc, E12, &ONE_NOTE)?;
+    let mut files = files(alloc, E12, GAP, &ONE_NOTE)?;
     files.add("out.mid", b"old")?;
     for (call, bytes) in calls {
         files.fail_after(*call, *bytes)?;
     }
-    let outcome = run(alloc, WORDS.as_slice(), &mut files);
+    let outcome = run(alloc, MAPPED.as_slice(), &mut files);
     check(rt, &files, outcome, Some(fault), 3, said, Some(held));
     assert_eq!(rt; counts(&files), counted);
     Ok(())
@@ -42,8 +43,9 @@ fn check_failing(rt: &impl Abort, alloc: Global, case: Case<'_>) -> Result<(), F
 #[test]
 fn loads_that_fail(rt: HostRuntime) -> Result<(), Fail> {
     let scale = "mtune: cannot load scale\n";
+    let map = "mtune: cannot load map\n";
     let input = "mtune: cannot load input\n";
-    let cases: [Case<'_>; 4] = [
+    let cases: [Case<'_>; 5] = [
         (
             &[(1, 0)],
             load(Which::Scale),
@@ -58,15 +60,16 @@ fn loads_that_fail(rt: HostRuntime) -> Result<(), Fail> {
             b"old",
             [1, 0, 0, 0, 1],
         ),
+        (&[(2, 0)], load(Which::Map), map, b"old", [0, 1, 0, 0, 0]),
         (
-            &[(2, 0)],
+            &[(3, 0)],
             load(Which::Input),
             input,
             b"old",
             [0, 0, 1, 0, 0],
         ),
         (
-            &[(2, 0), (3, 5)],
+            &[(3, 0), (4, 5)],
             load(Which::Input),
             "mtune",
             b"old",
@@ -81,8 +84,10 @@ fn loads_that_fail(rt: HostRuntime) -> Result<(), Fail> {
 
 #[test]
 fn stores_and_says_that_fail(rt: HostRuntime) -> Result<(), Fail> {
-    let output = one_note_output(rt.alloc())?;
-    let whole = output.as_slice();
+    let mut done = files(rt.alloc(), E12, GAP, &ONE_NOTE)?;
+    let outcome = run(rt.alloc(), MAPPED.as_slice(), &mut done);
+    assert!(rt; outcome.fault.is_none());
+    let whole = done.content("out.mid").unwrap_or(b"");
     let front = if whole.len() < 10 {
         whole
     } else {
@@ -91,17 +96,17 @@ fn stores_and_says_that_fail(rt: HostRuntime) -> Result<(), Fail> {
     let store = "mtune: cannot store\n";
     // a failed store leaves the first bytes; nothing is said after a report that failed
     let cases: [Case<'_>; 5] = [
-        (&[(3, 0)], Fault::Store, store, b"", [0, 0, 0, 1, 0]),
-        (&[(3, 10)], Fault::Store, store, front, [0, 0, 0, 1, 0]),
+        (&[(4, 0)], Fault::Store, store, b"", [0, 0, 0, 1, 0]),
+        (&[(4, 10)], Fault::Store, store, front, [0, 0, 0, 1, 0]),
         (
-            &[(3, 462), (4, 0)],
+            &[(4, 462), (5, 0)],
             Fault::Store,
             "",
             whole,
             [0, 0, 0, 1, 1],
         ),
-        (&[(4, 0), (5, 9)], Fault::Say, "", whole, [0, 0, 0, 0, 1]),
-        (&[(4, 3)], Fault::Say, "rou", whole, [0, 0, 0, 0, 1]),
+        (&[(5, 0), (6, 9)], Fault::Say, "", whole, [0, 0, 0, 0, 1]),
+        (&[(5, 3)], Fault::Say, "rou", whole, [0, 0, 0, 0, 1]),
     ];
     for case in cases {
         check_failing(&rt, rt.alloc(), case)?;

@@ -28,7 +28,8 @@ fn one_note_is_told(rt: HostRuntime) -> Result<(), Fail> {
     let track = joined(alloc, &[&SELECT, &CHANGE, &ONE_NOTE[22..]])?;
     assert_eq!(rt; track.len(), 43);
     let output = file(alloc, 0, 1, &[track.as_slice()])?;
-    let said = "route live\nkey 69 to 45 00 00 error 0.000 to 0.000\nnotes 1\nchannels 1\nerror 0.000 to 0.000\n";
+    let said =
+        "route live\nkey 69 to 45 00 00 error 0.000 to 0.000\nnotes 1\nchannels 1\nerror 0.000 to 0.000\n";
     check(&rt, &files, outcome, None, 0, said, Some(output.as_slice()));
     Ok(())
 }
@@ -63,7 +64,8 @@ fn each_port_has_its_setup(rt: HostRuntime) -> Result<(), Fail> {
     let one = joined(alloc, &[&first[..5], told.as_slice(), &first[5..]])?;
     let two = joined(alloc, &[&second[..5], told.as_slice(), &second[5..]])?;
     let output = file(alloc, 1, 2, &[one.as_slice(), two.as_slice()])?;
-    let said = "route live\nkey 69 to 45 00 00 error 0.000 to 0.000\nnotes 2\nchannels 2\nerror 0.000 to 0.000\n";
+    let said =
+        "route live\nkey 69 to 45 00 00 error 0.000 to 0.000\nnotes 2\nchannels 2\nerror 0.000 to 0.000\n";
     check(&rt, &files, outcome, None, 0, said, Some(output.as_slice()));
     // and the same with a dump
     let words = [
@@ -89,8 +91,18 @@ fn drums_are_retuned_and_programs_are_set(rt: HostRuntime) -> Result<(), Fail> {
     let input = file(alloc, 0, 1, &[&note])?;
     let mut files = files(alloc, E12, input.as_slice())?;
     let words = [
-        "--scale", "e12.scl", "--a440", "--route", "live", "--drums", "retune", "--program", "127",
-        "--out", "out.mid", "in.mid",
+        "--scale",
+        "e12.scl",
+        "--a440",
+        "--route",
+        "live",
+        "--drums",
+        "retune",
+        "--program",
+        "127",
+        "--out",
+        "out.mid",
+        "in.mid",
     ];
     let outcome = run(alloc, words.as_slice(), &mut files);
     let mut select = SELECT;
@@ -100,7 +112,8 @@ fn drums_are_retuned_and_programs_are_set(rt: HostRuntime) -> Result<(), Fail> {
     change[7] = 0x7f;
     let track = joined(alloc, &[&select, &change, &note])?;
     let output = file(alloc, 0, 1, &[track.as_slice()])?;
-    let said = "route live\nkey 69 to 45 00 00 error 0.000 to 0.000\nnotes 1\nchannels 1\nerror 0.000 to 0.000\n";
+    let said =
+        "route live\nkey 69 to 45 00 00 error 0.000 to 0.000\nnotes 1\nchannels 1\nerror 0.000 to 0.000\n";
     check(&rt, &files, outcome, None, 0, said, Some(output.as_slice()));
     Ok(())
 }

@@ -9,7 +9,7 @@ use std::process::Abort;
 use std::test::Fail;
 
 /// With a mapping by its name.
-const MAPPED: [&str; 9] = [
+pub const MAPPED: [&str; 9] = [
     "--scale", "s.scl", "--map", "m.kbm", "--route", "dump", "--out", "out.mid", "in.mid",
 ];
 
@@ -25,9 +25,9 @@ const AT_440: [&str; 8] = [
 const J12: &str = "j12\n12\n16/15\n9/8\n6/5\n5/4\n4/3\n45/32\n3/2\n8/5\n5/3\n9/5\n15/8\n2/1\n";
 
 /// Twelve entries, of which the second is left out.
-const GAP: &str = "12\n0\n127\n60\n69\n440.0\n12\n0\nx\n2\n3\n4\n5\n6\n7\n8\n9\n10\n11\n";
+pub const GAP: &str = "12\n0\n127\n60\n69\n440.0\n12\n0\nx\n2\n3\n4\n5\n6\n7\n8\n9\n10\n11\n";
 
-fn files(alloc: Global, scale: &str, mapping: &str, input: &[u8]) -> Result<MemFiles, Fail> {
+pub fn files(alloc: Global, scale: &str, mapping: &str, input: &[u8]) -> Result<MemFiles, Fail> {
     let mut files = MemFiles::new(alloc);
     files.add("s.scl", scale.as_bytes())?;
     files.add("m.kbm", mapping.as_bytes())?;

@@ -57,21 +57,55 @@ fn wrong_words_are_refused(rt: HostRuntime) -> Result<(), Fail> {
         ],
         // programs that are too great, or no digits, or none
         &[
-            "--scale", "e12.scl", "--a440", "--route", "dump", "--program", "128", "--out",
-            "out.mid", "in.mid",
+            "--scale",
+            "e12.scl",
+            "--a440",
+            "--route",
+            "dump",
+            "--program",
+            "128",
+            "--out",
+            "out.mid",
+            "in.mid",
         ],
         &[
-            "--scale", "e12.scl", "--a440", "--route", "dump", "--program", "+1", "--out",
-            "out.mid", "in.mid",
+            "--scale",
+            "e12.scl",
+            "--a440",
+            "--route",
+            "dump",
+            "--program",
+            "+1",
+            "--out",
+            "out.mid",
+            "in.mid",
         ],
         &[
-            "--scale", "e12.scl", "--a440", "--route", "dump", "--program", "", "--out", "out.mid",
+            "--scale",
+            "e12.scl",
+            "--a440",
+            "--route",
+            "dump",
+            "--program",
+            "",
+            "--out",
+            "out.mid",
             "in.mid",
         ],
         // drums behind the program
         &[
-            "--scale", "e12.scl", "--a440", "--route", "dump", "--program", "1", "--drums", "keep",
-            "--out", "out.mid", "in.mid",
+            "--scale",
+            "e12.scl",
+            "--a440",
+            "--route",
+            "dump",
+            "--program",
+            "1",
+            "--drums",
+            "keep",
+            "--out",
+            "out.mid",
+            "in.mid",
         ],
         // an option in place of a name
         &[
@@ -257,7 +291,16 @@ fn what_a_source_may_not_hold_is_refused(rt: HostRuntime) -> Result<(), Fail> {
         let fault = at_event(position, kind);
         let line = ["mtune: input event ", rest];
         let octaves = "octaves\n1\n1200.0\n";
-        check_refused(&rt, alloc, octaves, input.as_slice(), &WORDS, fault, 2, line)?;
+        check_refused(
+            &rt,
+            alloc,
+            octaves,
+            input.as_slice(),
+            &WORDS,
+            fault,
+            2,
+            line,
+        )?;
     }
     Ok(())
 }
