@@ -1,5 +1,5 @@
 -- Where the words and the contents are accepted and no count rose, no fault but want of memory has its cause.
-use Rattle.std.proofs.Common.{◌≡◌, ◌<◌, ◌⊎◌, ℕ, List, [], ◌∷◌, ◌++◌, length, true, Option, Some, None, is_some, refl, ap, sym, subst, ◌∙◌, inl, inr, arith}
+use Rattle.std.proofs.Common.{◌≡◌, ◌<◌, ℕ, List, length, Option, Some, None, refl, ap, sym, subst, ◌∙◌, inl, inr, arith}
 use Rattle.mt_base.specs.Laws.{EndsInOrder}
 use Rattle.scala_lines.specs.Lines.{lines_of}
 use Rattle.scl_text.specs.declared.entry.Entry.{Entry}

@@ -1,12 +1,12 @@
 -- How many channels have retuned notes.
-use Rattle.std.proofs.Common.{◌≡◌, ◌<◌, ◌≤◌, ◌+◌, ◌-◌, ℕ, zero, suc, List, [], ◌∷◌, length, filter, Bool, true, false, cond, refl, sym, ap, ◌∙◌, arith}
+use Rattle.std.proofs.Common.{◌≡◌, ◌<◌, ◌≤◌, ◌+◌, ◌-◌, ℕ, zero, suc, List, ◌∷◌, length, filter, Bool, true, false, cond, refl, sym, ap, ◌∙◌, arith}
 use Rattle.mt_base.specs.Midi.{MidiEvent}
 use Rattle.retune_model.specs.Options.{Options}
 use Rattle.retune_model.specs.Ports.{events_on}
 use Rattle.retune_model.specs.Dump.{from_up, parts_with_notes}
 use Rattle.receiver.specs.Notes.{has}
 use Rattle.lifetimes.specs.Noted.{AreNoted}
-use Rattle.mtune_core.specs.Report.{channels_from, channels_of}
+use Rattle.mtune_core.specs.Report.{channels_from}
 
 -- the same numbers from one on that pass two tests which agree
 same_passed : (f g : ℕ → Bool) (c n : ℕ) → ((i : ℕ) → i < c + n → f i ≡ g i) → filter f (from_up c n) ≡ filter g (from_up c n)

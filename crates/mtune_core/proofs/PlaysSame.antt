@@ -1,5 +1,5 @@
 -- The output of a source without a fault plays the same.
-use Rattle.std.proofs.Common.{◌≡◌, ℕ, List, length, refl}
+use Rattle.std.proofs.Common.{ℕ, List, length, refl}
 use Rattle.mt_base.specs.Midi.{MidiEvent}
 use Rattle.midi_model.specs.Merged.{merged, IsPlayable}
 use Rattle.midi_model.specs.Order.{AreInOrder}

@@ -1,6 +1,6 @@
 -- Where the scale pitches of the keys that are used are from 0 to 12,700 cents, no event has the fault that its key has no pitch, or no
 -- target that a device can play, in whichever table.
-use Rattle.std.proofs.Common.{◌≡◌, ◌⊎◌, ◌<◌, ◌≤◌, ◌/◌, ℕ, zero, suc, ℤ, pos, negsuc, ◌+ℤ◌, ◌≤ℤ◌, List, [], ◌∷◌, Bool, true, false, not, cond, Option, Some, None, is_some, length, take, drop, refl, sym, ap, subst, ◌∙◌, arith, inl, inr}
+use Rattle.std.proofs.Common.{◌≡◌, ◌⊎◌, ◌<◌, ◌≤◌, ◌/◌, ℕ, zero, suc, ℤ, pos, negsuc, ◌+ℤ◌, ◌≤ℤ◌, List, [], ◌∷◌, Bool, true, false, not, cond, Option, Some, None, is_some, take, drop, refl, sym, ap, subst, ◌∙◌, arith, inl, inr}
 use Rattle.std.specs.Prelude.{◌&&◌, ◌||◌, nat_eq, IfSome}
 use Rattle.std.specs.Int.{int_div_euclid}
 use Rattle.std.specs.List.{AllByRecursion}
@@ -21,7 +21,7 @@ use Rattle.retune_model.specs.Ports.{port_of, ports_from, all_zero, port_at, mus
 use Rattle.retune_model.specs.Rests.{pairs_at}
 use Rattle.retune_model.specs.Pairs.{Pair}
 use Rattle.retune_model.specs.Faults.{Targets, Kind, UnmappedKey, KeyOutOfDevice, TuningInSource, Port, is_part, has_target, misses_target, is_unmapped, is_out_of_device, first_that}
-use Rattle.retune_model.specs.SourceFaults.{Fault, kind_in, kind_behind, bend_of, breaks_ports, message_tests, placed_at, fault_of, fault_at, first_fault, IsFirst}
+use Rattle.retune_model.specs.SourceFaults.{Fault, kind_in, kind_behind, bend_of, breaks_ports, message_tests, placed_at, fault_of, first_fault}
 use Rattle.retune_model.specs.FaultLaws.{FirstIsOfAnEvent}
 use Rattle.mtune_core.proofs.Ended.{clash}
 use Rattle.mtune_core.specs.Report.{begins_on, uses_key}

@@ -1,6 +1,6 @@
 -- What an input gives, and what is refused of it.
-use Rattle.std.proofs.Common.{Fits, w8, suc, ◌∷◌, [], ◌≡◌, ◌<◌, ◌≤◌, ℕ, List, length, Option, Some, None, get_or, refl, sym, ap, subst, ◌∙◌, arith}
-use Rattle.std.specs.Prelude.{Result, Ok, Err, IfOk, IfErr, OnOk, All}
+use Rattle.std.proofs.Common.{Fits, w8, suc, ◌∷◌, [], ◌≡◌, ◌<◌, ◌≤◌, ℕ, List, length, get_or, refl, sym, subst, arith}
+use Rattle.std.specs.Prelude.{Result, Ok, Err, IfOk, OnOk}
 use Rattle.std.specs.List.{AllByRecursion}
 use Rattle.mt_base.specs.Midi.{MidiEvent}
 use Rattle.midi_model.specs.FileText.{MidiFile}

@@ -1,4 +1,4 @@
-use Rattle.std.proofs.Common.{◌≡◌, ◌<◌, ◌≤◌, ◌+◌, ◌-◌, length, filter}
+use Rattle.std.proofs.Common.{◌≡◌, ◌≤◌, ◌+◌, ◌-◌, length, filter}
 use Rattle.retune_model.specs.Dump.{from_up}
 use Rattle.receiver.specs.Notes.{has}
 use Rattle.mtune_core.proofs.reporting.channels_in.Given as goal

@@ -1,11 +1,11 @@
-use Rattle.std.proofs.Common.{◌≡◌, ◌++◌, List, ap, ◌∙◌}
+use Rattle.std.proofs.Common.{◌≡◌, ◌++◌, ap, ◌∙◌}
 use Rattle.key_pitch.specs.Aims.{by_onset, table_of}
 use Rattle.key_report.specs.Keys.{is_used, key_errors, whole_error}
 use Rattle.key_report.specs.Texts.{key_lines, error_line}
 use Rattle.lifetimes.specs.Told.{count_begun}
 use Rattle.lifetimes.specs.Views.{route_of, options_of}
 use Rattle.mtune_core.specs.Lines.{route_line, count_lines}
-use Rattle.mtune_core.specs.Report.{channels_of, errors_of, uses_key}
+use Rattle.mtune_core.specs.Report.{errors_of, uses_key}
 use Rattle.mtune_core.proofs.Said.{said}
 use Rattle.mtune_core.proofs.reporting.report.Goals as goal
 

@@ -2,7 +2,7 @@ use Rattle.std.proofs.Common.{◌≡◌, ◌≤◌, ◌<◌, ◌^◌, ℕ, List,
 use Rattle.std.specs.Prelude.{All}
 use Rattle.std.proofs.lemmas.List.{length-map}
 use Rattle.mt_base.specs.Midi.{MidiEvent}
-use Rattle.midi_model.specs.Merged.{merged, IsPlayable}
+use Rattle.midi_model.specs.Merged.{merged}
 use Rattle.midi_model.specs.Writing.{Written, written}
 use Rattle.event_stream.specs.Distributed.{distributed}
 use Rattle.key_pitch.specs.Aims.{by_onset}
@@ -10,7 +10,6 @@ use Rattle.lifetimes.specs.Noted.{IsNoted}
 use Rattle.lifetimes.specs.Stands.{Stands, asked, table_in}
 use Rattle.lifetimes.specs.Views.{options_of}
 use Rattle.retune_model.specs.Options.{Options, bends_notes}
-use Rattle.retune_model.specs.Faults.{Targets}
 use Rattle.retune_model.specs.SourceFaults.{IsFaultless}
 use Rattle.routes.specs.Putting.{AllMayPut}
 use Rattle.routes.specs.Routed.{routed}

@@ -1,14 +1,13 @@
-use Rattle.std.proofs.Common.{◌≡◌, ◌<◌, ◌++◌, [], ◌∷◌, List, length, refl, sym, ap, subst, ◌∙◌, arith}
+use Rattle.std.proofs.Common.{◌≡◌, ◌<◌, ◌++◌, [], ◌∷◌, length, refl, sym, ap, subst, ◌∙◌, arith}
 use Rattle.std.specs.List.{AllByRecursion}
 use Rattle.mt_base.specs.Midi.{MidiEvent, view}
 use Rattle.mt_base.specs.Valid.{IsValidEvent}
 use Rattle.midi_model.specs.Order.{AreInOrder}
 use Rattle.retune_model.specs.Options.{Options}
 use Rattle.retune_model.specs.SourceFaults.{first_fault}
-use Rattle.lifetimes.specs.Stands.{Stands, asked, table_in, position_of, tick_of}
-use Rattle.lifetimes.specs.Told.{told_fault, source_of}
+use Rattle.lifetimes.specs.Stands.{asked, table_in, tick_of}
 use Rattle.mtune_core.specs.Survey.{IsFound}
-use Rattle.mtune_core.proofs.Surveyed.{front_next, first_told, told_on, key_is_low}
+use Rattle.mtune_core.proofs.Surveyed.{front_next, first_told, told_on}
 use Rattle.mtune_core.proofs.survey.survey.Goals as goal
 
 pub events-init : goal.events-init
