@@ -1,6 +1,5 @@
-ghost use Rattle.std.specs.Prelude.{◌≡◌, ◌<◌, ◌≤◌, length, true};
+ghost use Rattle.std.specs.Prelude.{◌≡◌, ◌<◌, length, true};
 ghost use Rattle.mt_base.specs.Midi.{view_what, end_of_track};
-ghost use Rattle.mt_base.specs.Valid.{IsValidWhat};
 
 use super::*;
 use mt_base::{Channel, Memory, Msg, What};
@@ -48,20 +47,19 @@ fn drums(alloc: Global) -> Result<Vec<u8>, Memory> {
     one_track(alloc, 480, track)
 }
 
-fn control(number: u8, value: u8) -> What<'static>
-    requires number { number ≤ 127 }
-    requires value { value ≤ 127 }
-    ensures { IsValidWhat (view_what result) }
-{
-    What::Message(Msg::Control {
-        channel: Channel::default(),
-        number,
-        value,
-    })
-}
-
 /// A tuning of one key, and a note of that key.
 fn tuned(alloc: Global) -> Result<Vec<u8>, Memory> {
+    let channel = Channel::default();
+    let high = What::Message(Msg::Control {
+        channel,
+        number: 101,
+        value: 0,
+    });
+    let low = What::Message(Msg::Control {
+        channel,
+        number: 100,
+        value: 3,
+    });
     let tuning = What::Sysex {
         lead: 0xf0,
         bytes: &[
@@ -69,18 +67,18 @@ fn tuned(alloc: Global) -> Result<Vec<u8>, Memory> {
         ],
     };
     let on = What::Message(Msg::NoteOn {
-        channel: Channel::default(),
+        channel,
         key: 69,
         velocity: 64,
     });
     let off = What::Message(Msg::NoteOff {
-        channel: Channel::default(),
+        channel,
         key: 69,
         velocity: 64,
     });
     let mut track = TrackText::new(alloc);
-    track.put(0, &control(101, 0))?;
-    track.put(0, &control(100, 3))?;
+    track.put(0, &high)?;
+    track.put(0, &low)?;
     track.put(0, &tuning)?;
     track.put(0, &on)?;
     track.put(480, &off)?;
