@@ -50,5 +50,5 @@ case $line in
     'mtune: cannot store') unwritten "$out" ;;
     'mtune: too long map' | 'mtune: map line '* | *'not mapped') echo "The mapping is $map." ;;
     *scale*) echo "The scale is $scale." ;;
-    *input* | *'not yet'*) echo "The input is $input." ;;
+    *input*) echo "The input is $input." ;;
 esac

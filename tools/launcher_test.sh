@@ -144,7 +144,7 @@ begin each row of the table of faults
 tab=$(printf '\t')
 tail -n +2 "$copy/docs/faults.tsv" >"$room/rows"
 while IFS=$tab read -r pattern status meaning cause remedy; do
-    line=$(printf '%s\n' "$pattern" | sed 's/\*/7/')
+    line=$(printf '%s\n' "$pattern" | sed 's/\*/7/g')
     "$copy/tools/explain.sh" "$status" "$line" >"$room/explained"
     explains "$meaning"
     explains "$cause"
@@ -156,10 +156,9 @@ begin each line that the program has
 for kind in 1 2 3 4 5 6 7 8 9; do echo "2 mtune: scale line 12 kind $kind"; done >"$room/lines"
 for kind in 1 2 3 4 5 6 7; do echo "2 mtune: map line 12 kind $kind"; done >>"$room/lines"
 for kind in 1 2 3 4 5 6 7 8 9 10 11 12 13; do echo "2 mtune: input byte 12 kind $kind"; done >>"$room/lines"
+for kind in 1 2 5 6 7 8 9 10; do echo "2 mtune: input event 12 tick 480 track 3 kind $kind"; done >>"$room/lines"
 cat >>"$room/lines" <<'END'
 1 mtune: usage 1
-2 mtune: not yet 2
-2 mtune: not yet 3
 2 mtune: too long scale
 2 mtune: too long map
 2 mtune: too long input

@@ -49,7 +49,12 @@ ends() {
     shift
     { [ $# -eq 0 ] || printf '%s\n' "$@"; } | cmp -s - "$room/said" || fail "it said: $(cat "$room/said")"
 }
-is_retuned() { ends 0 'route dump' 'notes 1' 'channels 1'; holds "$1" "$room/out.mid"; }
+# The second word is the error that is told of the note; without it, that is 0.
+is_retuned() {
+    error=${2:-error 0.000 to 0.000}
+    ends 0 'route dump' "key 69 to 45 00 00 $error" 'notes 1' 'channels 1' "$error"
+    holds "$1" "$room/out.mid"
+}
 cannot_store() { ends 3 'mtune: cannot store'; }
 holds() { cmp -s "$1" "$2" || fail "$1 holds something else"; }
 leads() { [ "$(readlink "$1")" = "$2" ] || fail "$1 isn't the link to $2 any more"; }
@@ -78,6 +83,15 @@ bytes 00 90 45 40 83 60 80 45 40 00 ff 2f 00 >"$room/note"
     bytes 4f f7 00 b0 65 00 00 64 03 00 06 00 00 65 7f 00 64 7f
     cat "$room/note"
 } >"$room/out.mid"
+# The same on the live route, by a tuning program: its selection, and the change of key 69 before its note.
+live() {
+    cat "$room/header"
+    bytes 4d 54 72 6b 00 00 00 2b 00 b0 65 00 00 64 03 00 06 "$1" 00 65 7f 00 64 7f
+    bytes 00 f0 0b 7f 7f 08 02 "$1" 01 45 45 00 00 f7
+    cat "$room/note"
+}
+live 00 >"$room/live.mid"
+live 7f >"$room/live127.mid"
 printf 'what was there before\n' >"$room/old"
 
 # ---- names
@@ -102,8 +116,25 @@ has next.kbm out.mid
 
 begin no mapping
 run --scale e12.scl --route dump --out out.mid in.mid
-is_retuned out.mid
+is_retuned out.mid 'error -0.001 to 0.001'
 has out.mid
+
+begin the live route
+run --scale e12.scl --a440 --route live --out out.mid in.mid
+ends 0 'route live' 'key 69 to 45 00 00 error 0.000 to 0.000' 'notes 1' 'channels 1' 'error 0.000 to 0.000'
+holds out.mid "$room/live.mid"
+has out.mid
+
+begin drums to retune, and another tuning program
+run --scale e12.scl --a440 --route live --drums retune --program 127 --out out.mid in.mid
+ends 0 'route live' 'key 69 to 45 00 00 error 0.000 to 0.000' 'notes 1' 'channels 1' 'error 0.000 to 0.000'
+holds out.mid "$room/live127.mid"
+
+begin an output as input
+cp "$room/out.mid" in.mid
+retune e12.scl out.mid in.mid
+ends 2 'mtune: input event 1 tick 0 track 0 kind 7'
+has
 
 begin the output named as the input
 retune e12.scl in.mid in.mid
