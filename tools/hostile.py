@@ -7,7 +7,7 @@ Each input has a folder of its own, below a temporary one that is removed at the
 A run has to end without a signal, within a second of the processor's time and ten seconds in all. Where it refuses, it
 has to say one line of docs/faults.tsv with the line's status, and each file has to stay as it was. Where it accepts,
 it has to say the report and write one output; run over that output, it has to accept it as it stands, or to refuse the
-tuning messages in it, or its length. Where an input's answer follows from how it was made, it has to be that one.
+tuning in it (kind 7), or its length. Where an input's answer follows from how it was made, it has to be that one.
 Input number N of a kind and a seed is the same each time. Failures are printed with kind and number, the status is
 then 1, and --keep names a folder for a copy of their inputs.
 """
@@ -29,8 +29,10 @@ import time
 from hostile_inputs import ACCEPTED, INPUT_LIMIT, KINDS, TOO_LONG
 
 TOP = pathlib.Path(__file__).resolve().parent.parent
-NOT_YET = "mtune: not yet 2"
-REPORT = re.compile(r"route dump\nnotes (\d+)\nchannels (\d+)\n")
+TUNED = "mtune: input event * tick * track * kind 7"
+NUMBER = r"-?\d+\.\d{3}"
+KEY = rf"(?:key \d+ to(?: [0-7][0-9A-F]){{3}} error {NUMBER} to {NUMBER}\n)*"
+REPORT = re.compile(rf"route (?:dump|live)\n{KEY}notes (\d+)\nchannels (\d+)\nerror (?:none|{NUMBER} to {NUMBER})\n")
 SECONDS, SECONDS_IN_ALL = 1, 10
 PART = 200
 NOTHING = (0, 0, 0)
@@ -54,9 +56,9 @@ def stop(*_):
     raise Wrong(f"no end after {SECONDS_IN_ALL} seconds")
 
 
-def run(program, folder, output, source):
+def run(program, route, folder, output, source):
     """The answer of one run, what it said, and what it took: processor's seconds, seconds in all, and megabytes."""
-    words = [program, "--scale", f"{folder}/scale.scl", "--a440", "--route", "dump"]
+    words = [program, "--scale", f"{folder}/scale.scl", "--a440", "--route", route]
     words += ["--out", f"{folder}/{output}", f"{folder}/{source}"]
     said = f"{folder}.said"
     streams = [(os.POSIX_SPAWN_OPEN, 1, said, os.O_WRONLY | os.O_CREAT | os.O_TRUNC, 0o600)]
@@ -92,7 +94,7 @@ def held_in(folder):
     return {name: (folder / name).read_bytes() for name in os.listdir(folder)}
 
 
-def try_out(program, folder, output, case):
+def try_out(program, route, folder, output, case):
     """The answer to an input, and the most that a run took."""
     scale, source, wanted = case
     before = {"scale.scl": scale, "in.mid": source}
@@ -100,7 +102,7 @@ def try_out(program, folder, output, case):
         before[output] = b"what was there before\n"
     for name, content in before.items():
         (folder / name).write_bytes(content)
-    answer, said, took = run(program, folder, output, "in.mid")
+    answer, said, took = run(program, route, folder, output, "in.mid")
     if wanted not in (None, answer, said.rstrip("\n")):
         raise Wrong(f"it said {said!r}, and {wanted!r} is wanted")
     after = held_in(folder)
@@ -111,10 +113,10 @@ def try_out(program, folder, output, case):
     made = after.get(output, b"")
     if after != {**before, output: made} or not made.startswith(b"MThd"):
         raise Wrong("it accepted, and wrote no output or another file")
-    wanted = NOT_YET if REPORT.fullmatch(said).group(1) != "0" else ACCEPTED
+    wanted = TUNED if REPORT.fullmatch(said).group(1) != "0" else ACCEPTED
     if len(made) > INPUT_LIMIT:
         wanted = TOO_LONG % "input"
-    again, said, more = run(program, folder, "again.mid", output)
+    again, said, more = run(program, route, folder, "again.mid", output)
     if again != wanted:
         raise Wrong(f"over its output it said {said!r}, and {wanted!r} is wanted")
     if held_in(folder) != {**after, **({"again.mid": made} if again == ACCEPTED else {})}:
@@ -130,14 +132,15 @@ def try_part(part):
     for number in numbers:
         chance = random.Random(f"{kind} {given.seed} {number}")
         case, output = KINDS[kind](chance), chance.choice(("out.mid", "old.mid", "in.mid"))
+        route = chance.choice(("dump", "live"))
         folder = pathlib.Path(given.room, f"{kind}-{number}")
         folder.mkdir()
         try:
-            answer, more = try_out(given.program, folder, output, case)
+            answer, more = try_out(given.program, route, folder, output, case)
             answers[answer] += 1
             took = most(took, more)
         except Wrong as wrong:
-            failures.append(f"{kind} {number}, --out {output}: {wrong}")
+            failures.append(f"{kind} {number}, --route {route} --out {output}: {wrong}")
             if given.keep:
                 kept = pathlib.Path(given.keep, f"{kind}-{number}")
                 kept.mkdir(parents=True, exist_ok=True)

@@ -62,7 +62,7 @@ def events(text):
 
 
 def parts_of(text):
-    """What tunes in a file of the route dump, and each of its notes once for each channel; no drums."""
+    """What tunes in a file of mtune's, and each of its notes once for each channel; no drums."""
     found = {}
     for place, data in enumerate(events(text)):
         kind, channel = data[0] >> 4, data[0] & 15

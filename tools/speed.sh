@@ -26,12 +26,13 @@ import time
 
 top, folder, runs = sys.argv[1], sys.argv[2], int(sys.argv[3])
 out = f"{folder}/out.mid"
-mtune = [f"{top}/crates/mtune/out/mtune", "--scale", f"{top}/examples/meantone.scl", "--a440", "--route", "dump"]
+mtune = [f"{top}/crates/mtune/out/mtune", "--scale", f"{top}/examples/meantone.scl", "--a440", "--route"]
 
 
 def commands(name):
     """What is run on a file, by a name."""
-    return {"mtune dump": mtune + ["--out", out, name], "midicopy": ["midicopy", name, out]}
+    peers = {f"mtune {route}": [*mtune, route, "--out", out, name] for route in ("dump", "live")}
+    return {**peers, "midicopy": ["midicopy", name, out]}
 
 
 def run(words):
