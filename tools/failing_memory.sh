@@ -1,5 +1,5 @@
 #!/bin/sh
-# Runs the program on one note, again and again, and refuses it memory: in the first run at its first allocation, then
+# Runs the program on one note, on each route, again and again, and refuses it memory: in the first run at its first allocation, then
 # at its second, and so on; at that one alone, or from it on; over an output that is there, or that isn't yet. Each run
 # has to answer want of memory or a failed store and to leave all files as they were, or to do without. The program is
 # the first word, or what the gate built. It has to take its memory from malloc; cc makes what stands in for that.
@@ -48,7 +48,7 @@ END
 # Runs it in a new folder, with what is there before.
 run() {
     rm -rf "$room/files" && cp -r "$room/before" "$room/files" && cd "$room/files" || exit 1
-    env "$@" LD_PRELOAD="$room/refusing.so" "$program" --scale e12.scl --a440 --route dump --out out.mid in.mid
+    env "$@" LD_PRELOAD="$room/refusing.so" "$program" --scale e12.scl --a440 --route "$route" --out out.mid in.mid
 }
 
 failures=0
@@ -72,15 +72,17 @@ try_each() {
         echo "$answer" >>"$room/answers"
         number=$((number + 1))
     done
-    echo "$all allocations, $1 the first to the last, $2:"
+    echo "$route: $all allocations, $1 the first to the last, $2:"
     uniq -c "$room/answers"
 }
 
-cp -r "$top/crates/mtune/data" "$room/before" || exit 1
-try_each ONLY 'no output yet'
-try_each FROM 'no output yet'
-printf 'what was there before\n' >"$room/before/out.mid"
-try_each ONLY 'over an output'
-try_each FROM 'over an output'
+for route in dump live; do
+    rm -rf "$room/before" && cp -r "$top/crates/mtune/data" "$room/before" || exit 1
+    try_each ONLY 'no output yet'
+    try_each FROM 'no output yet'
+    printf 'what was there before\n' >"$room/before/out.mid"
+    try_each ONLY 'over an output'
+    try_each FROM 'over an output'
+done
 echo "failing_memory: $failures failures"
 [ "$failures" -eq 0 ]
