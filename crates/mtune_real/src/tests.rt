@@ -74,7 +74,8 @@ fn an_input_of_the_greatest_size_is_retuned(rt: HostRuntime) -> Result<(), Fail>
     let track = notes(alloc, 699_046)?;
     let input = file(alloc, track.as_slice(), b"\x00")?;
     assert_eq!(rt; input.len(), 4_194_304);
-    let said = "route dump\nnotes 699046\nchannels 1\n";
+    let said =
+        "route dump\nkey 69 to 45 00 00 error 0.000 to 0.000\nnotes 699046\nchannels 1\nerror 0.000 to 0.000\n";
     check_retuned(&rt, alloc, input.as_slice(), track.as_slice(), said)
 }
 
@@ -83,7 +84,8 @@ fn many_notes_are_retuned(rt: HostRuntime) -> Result<(), Fail> {
     let alloc = rt.alloc();
     let track = notes(alloc, 300_000)?;
     let input = file(alloc, track.as_slice(), b"")?;
-    let said = "route dump\nnotes 300000\nchannels 1\n";
+    let said =
+        "route dump\nkey 69 to 45 00 00 error 0.000 to 0.000\nnotes 300000\nchannels 1\nerror 0.000 to 0.000\n";
     check_retuned(&rt, alloc, input.as_slice(), track.as_slice(), said)
 }
 
@@ -97,7 +99,8 @@ fn a_long_event_is_written_again(rt: HostRuntime) -> Result<(), Fail> {
     }
     track.extend_from_slice(b"\x01\x90\x45\x00\x00\xff\x2f\x00")?;
     let input = file(alloc, track.as_slice(), b"")?;
-    let said = "route dump\nnotes 1\nchannels 1\n";
+    let said =
+        "route dump\nkey 69 to 45 00 00 error 0.000 to 0.000\nnotes 1\nchannels 1\nerror 0.000 to 0.000\n";
     check_retuned(&rt, alloc, input.as_slice(), track.as_slice(), said)
 }
 
