@@ -1,5 +1,5 @@
 -- What a plan, as the program keeps it, tells.
-use Rattle.std.specs.Prelude.{ℕ, zero, suc, List, [], ◌∷◌, Bool, nat_eq, if◌then◌else◌, Option, Some, None, map, slice_get}
+use Rattle.std.specs.Prelude.{◌≡◌, ℕ, zero, suc, List, [], ◌∷◌, Bool, nat_eq, if◌then◌else◌, Option, Some, None, map, slice_get}
 use Rattle.mt_base.specs.declared.pair.Pair.{Pair}
 use Rattle.retune_model.specs.Places.{nth}
 use Rattle.channel_plan.specs.declared.fault.Instant.{Instant}
@@ -83,3 +83,10 @@ recast_note z used rows run g = if nat_eq g.port z then place_given g used (slic
 abbrev pub recast_notes : ℕ → List ℕ → List ℕ → List ℕ → List Given → List Given
 recast_notes z used rows (run ∷ runs) (g ∷ gs) = recast_note z used rows run g ∷ recast_notes z used rows runs gs
 recast_notes z used rows _ gs = gs
+
+-- The runs of a port have other channels, and all else stands.
+pub record IsRecast (z : ℕ) (rows : List ℕ) (old new : Plan) : Type 0 where
+  pub given : given_in new ≡ recast_notes z (used_in old z) rows (runs_in old) (given_in old)
+  pub ports : new.ports ≡ old.ports
+  pub numbers : new.numbers ≡ old.numbers
+  pub runs : new.runs ≡ old.runs

@@ -31,7 +31,8 @@ pub(crate) struct Free {
 /// The better of the best place so far and the next one: the one with the shorter setup, of equals the one that
 /// has been free for longer, of equals the first.
 fn better(best: Option<Free>, place: &Place, number: usize, wanted: &ChannelState) -> Option<Free>
-    ensures { (places : List PlaceOf) → IsPlaceAt places place.now number → BestTo places (state_of wanted.now) number best
+    ensures { (places : List PlaceOf) → IsPlaceAt places place.now number
+        → BestTo places (state_of wanted.now) number best
         → BestTo places (state_of wanted.now) (suc number) result }
 {
     if place.pair.is_some() {

@@ -82,7 +82,8 @@ fn zone_plan(
     part: Channel,
     counter: &Counter,
 ) -> Result<ZonePlan, PlanFault>
-    ensures zone { (o : Options) (table : Targets) (es : List MidiEvent) → CountsOf o (only part) table es port counter.now
+    ensures zone { (o : Options) (table : Targets) (es : List MidiEvent)
+        → CountsOf o (only part) table es port counter.now
         → IfOk result (IsZoneTold o table es port (zone_with upper (part, counter.now.need))) }
     ensures memory { IfErr result (λ fault. fault ≡ PlanFault.Memory) }
 {

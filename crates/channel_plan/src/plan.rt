@@ -118,7 +118,7 @@ fn used_row(ports: &[PortPlan], port: u8) -> &[Channel]
 }
 
 impl Plan {
-    ghost use Rattle.channel_plan.specs.Told.{ports_in, need_in, instant_in, witness_in, zone_in, zone_pairs_in, channel_in, run_in, run_count_in, used_in, given_in, runs_in, recast_notes};
+    ghost use Rattle.channel_plan.specs.Told.{ports_in, need_in, instant_in, witness_in, zone_in, zone_pairs_in, channel_in, run_in, run_count_in, IsRecast};
 
     /// The ports with a retuned note, ascending.
     pub fn ports(&self) -> &[u8]
@@ -226,10 +226,7 @@ impl Plan {
     /// was planned still holds, but that each channel was chosen for its short setup. A run without such a place
     /// keeps its channel, and so do the notes of other ports.
     pub fn recast(&mut self, port: u8, rows: &[u16])
-        ensures given { given_in self.new ≡ recast_notes port (used_in self.old port) rows.now (runs_in self.old) (given_in self.old) }
-        ensures ports { self.new.ports ≡ self.old.ports }
-        ensures numbers { self.new.numbers ≡ self.old.numbers }
-        ensures runs { self.new.runs ≡ self.old.runs }
+        ensures { IsRecast port rows.now self.old self.new }
     {
         let used = used_row(self.ports.as_slice(), port);
         recast_each(

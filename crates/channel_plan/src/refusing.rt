@@ -31,9 +31,11 @@ fn first_pairs(pairs: &[Pair], count: usize) -> ArrayVec<Pair, 17>
 /// it doesn't.
 pub(crate) fn refused(port: u8, counter: &Counter, allowed: u32) -> Option<TooMany>
     requires { allowed ≤ 16 }
-    ensures some { (o : Options) (part : ℕ → Bool) (table : Targets) (es : List MidiEvent) → CountsOf o part table es port counter.now
+    ensures some { (o : Options) (part : ℕ → Bool) (table : Targets) (es : List MidiEvent)
+        → CountsOf o part table es port counter.now
         → IfSome result (λ t. NeedsMore o part table es port allowed (too_many_of t)) }
-    ensures none { (o : Options) (part : ℕ → Bool) (table : Targets) (es : List MidiEvent) → CountsOf o part table es port counter.now
+    ensures none { (o : Options) (part : ℕ → Bool) (table : Targets) (es : List MidiEvent)
+        → CountsOf o part table es port counter.now
         → IfNone result (NeedsAtMost o part table es port allowed) }
 {
     need_laws();

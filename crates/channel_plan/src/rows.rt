@@ -65,7 +65,8 @@ pub(crate) fn zone_row(upper: bool, members: u8) -> Row
 /// kept drums channel 10 is left out of both zones.
 pub(crate) fn lower_allowed(drums: bool, upper: Option<u32>) -> u32
     ensures alone { IfNone upper ((l : ZoneOf) → result ≡ lower_allowed drums (l ∷ [])) }
-    ensures both { IfSome upper (λ n. (l u : ZoneOf) → u.members ≡ n → result ≡ lower_allowed drums (l ∷ u ∷ [])) }
+    ensures both { IfSome upper (λ n. (l u : ZoneOf) → u.members ≡ n
+        → result ≡ lower_allowed drums (l ∷ u ∷ [])) }
     ensures few { result ≤ 15 }
 {
     match upper {
