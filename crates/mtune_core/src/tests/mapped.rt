@@ -156,41 +156,43 @@ fn check_mapping(
     Ok(())
 }
 
+/// Mappings that can't be read, each with the line and the kind that are told.
+const BROKEN_MAPPINGS: [(&str, u32, KbmKind, &str); 9] = [
+    ("", 1, KbmKind::MissingField, "1 kind 1"),
+    (
+        "12\n0\n127\n60\n69\n440.0\n",
+        7,
+        KbmKind::MissingField,
+        "7 kind 1",
+    ),
+    ("! x\ntwelve\n", 2, KbmKind::BadNumber, "2 kind 2"),
+    ("4097\n", 1, KbmKind::SizeRange, "1 kind 3"),
+    ("0\n128\n", 2, KbmKind::KeyRange, "2 kind 4"),
+    ("0\n60\n59\n", 3, KbmKind::KeyRange, "3 kind 4"),
+    (
+        "0\n0\n127\n60\n69\n0.0\n",
+        6,
+        KbmKind::BadFrequency,
+        "6 kind 5",
+    ),
+    (
+        "1\n0\n127\n60\n69\n440\n12\n! x\n-\n",
+        9,
+        KbmKind::BadEntry,
+        "9 kind 6",
+    ),
+    (
+        "0\n0\n127\n60\n69\n440\n16384\n",
+        7,
+        KbmKind::DegreeRange,
+        "7 kind 7",
+    ),
+];
+
 #[test]
 fn broken_mappings_are_refused(rt: HostRuntime) -> Result<(), Fail> {
-    let cases: [(&str, u32, KbmKind, &str); 9] = [
-        ("", 1, KbmKind::MissingField, "1 kind 1"),
-        (
-            "12\n0\n127\n60\n69\n440.0\n",
-            7,
-            KbmKind::MissingField,
-            "7 kind 1",
-        ),
-        ("! x\ntwelve\n", 2, KbmKind::BadNumber, "2 kind 2"),
-        ("4097\n", 1, KbmKind::SizeRange, "1 kind 3"),
-        ("0\n128\n", 2, KbmKind::KeyRange, "2 kind 4"),
-        ("0\n60\n59\n", 3, KbmKind::KeyRange, "3 kind 4"),
-        (
-            "0\n0\n127\n60\n69\n0.0\n",
-            6,
-            KbmKind::BadFrequency,
-            "6 kind 5",
-        ),
-        (
-            "1\n0\n127\n60\n69\n440\n12\n! x\n-\n",
-            9,
-            KbmKind::BadEntry,
-            "9 kind 6",
-        ),
-        (
-            "0\n0\n127\n60\n69\n440\n16384\n",
-            7,
-            KbmKind::DegreeRange,
-            "7 kind 7",
-        ),
-    ];
     let alloc = rt.alloc();
-    for (mapping, line, kind, rest) in cases {
+    for (mapping, line, kind, rest) in BROKEN_MAPPINGS {
         // a broken input isn't looked at
         let fault = Fault::Kbm { line, kind };
         check_mapping(

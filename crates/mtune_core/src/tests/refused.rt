@@ -24,96 +24,100 @@ fn no_words_are_refused(rt: HostRuntime) -> Result<(), Fail> {
     Ok(())
 }
 
+/// Words that are refused, each with what is wrong in them.
+const WRONG_WORDS: [&[&str]; 12] = [
+    // no input
+    &[
+        "--scale", "e12.scl", "--a440", "--route", "dump", "--out", "out.mid",
+    ],
+    // one word more
+    &[
+        "--scale", "e12.scl", "--a440", "--route", "dump", "--out", "out.mid", "in.mid", "x",
+    ],
+    // two mappings
+    &[
+        "--scale", "e12.scl", "--map", "m.kbm", "--a440", "--route", "dump", "--out", "out.mid",
+        "in.mid",
+    ],
+    // an option in place of a mapping's name
+    &[
+        "--scale", "e12.scl", "--map", "--route", "dump", "--out", "out.mid", "in.mid",
+    ],
+    // a mapping behind the route
+    &[
+        "--scale", "e12.scl", "--route", "dump", "--map", "m.kbm", "--out", "out.mid", "in.mid",
+    ],
+    // another route
+    &[
+        "--scale", "e12.scl", "--a440", "--route", "loud", "--out", "out.mid", "in.mid",
+    ],
+    // drums that are neither kept nor retuned
+    &[
+        "--scale", "e12.scl", "--a440", "--route", "live", "--drums", "mute", "--out", "out.mid",
+        "in.mid",
+    ],
+    // programs that are too great, or no digits, or none
+    &[
+        "--scale",
+        "e12.scl",
+        "--a440",
+        "--route",
+        "dump",
+        "--program",
+        "128",
+        "--out",
+        "out.mid",
+        "in.mid",
+    ],
+    &[
+        "--scale",
+        "e12.scl",
+        "--a440",
+        "--route",
+        "dump",
+        "--program",
+        "+1",
+        "--out",
+        "out.mid",
+        "in.mid",
+    ],
+    &[
+        "--scale",
+        "e12.scl",
+        "--a440",
+        "--route",
+        "dump",
+        "--program",
+        "",
+        "--out",
+        "out.mid",
+        "in.mid",
+    ],
+    // drums behind the program
+    &[
+        "--scale",
+        "e12.scl",
+        "--a440",
+        "--route",
+        "dump",
+        "--program",
+        "1",
+        "--drums",
+        "keep",
+        "--out",
+        "out.mid",
+        "in.mid",
+    ],
+    // an option in place of a name
+    &[
+        "--scale", "e12.scl", "--a440", "--route", "dump", "--out", "out.mid", "-in.mid",
+    ],
+];
+
 #[test]
 fn wrong_words_are_refused(rt: HostRuntime) -> Result<(), Fail> {
-    let cases: [&[&str]; 12] = [
-        // no input
-        &WORDS[..7],
-        // one word more
-        &[
-            "--scale", "e12.scl", "--a440", "--route", "dump", "--out", "out.mid", "in.mid", "x",
-        ],
-        // two mappings
-        &[
-            "--scale", "e12.scl", "--map", "m.kbm", "--a440", "--route", "dump", "--out",
-            "out.mid", "in.mid",
-        ],
-        // an option in place of a mapping's name
-        &[
-            "--scale", "e12.scl", "--map", "--route", "dump", "--out", "out.mid", "in.mid",
-        ],
-        // a mapping behind the route
-        &[
-            "--scale", "e12.scl", "--route", "dump", "--map", "m.kbm", "--out", "out.mid", "in.mid",
-        ],
-        // another route
-        &[
-            "--scale", "e12.scl", "--a440", "--route", "loud", "--out", "out.mid", "in.mid",
-        ],
-        // drums that are neither kept nor retuned
-        &[
-            "--scale", "e12.scl", "--a440", "--route", "live", "--drums", "mute", "--out",
-            "out.mid", "in.mid",
-        ],
-        // programs that are too great, or no digits, or none
-        &[
-            "--scale",
-            "e12.scl",
-            "--a440",
-            "--route",
-            "dump",
-            "--program",
-            "128",
-            "--out",
-            "out.mid",
-            "in.mid",
-        ],
-        &[
-            "--scale",
-            "e12.scl",
-            "--a440",
-            "--route",
-            "dump",
-            "--program",
-            "+1",
-            "--out",
-            "out.mid",
-            "in.mid",
-        ],
-        &[
-            "--scale",
-            "e12.scl",
-            "--a440",
-            "--route",
-            "dump",
-            "--program",
-            "",
-            "--out",
-            "out.mid",
-            "in.mid",
-        ],
-        // drums behind the program
-        &[
-            "--scale",
-            "e12.scl",
-            "--a440",
-            "--route",
-            "dump",
-            "--program",
-            "1",
-            "--drums",
-            "keep",
-            "--out",
-            "out.mid",
-            "in.mid",
-        ],
-        // an option in place of a name
-        &[
-            "--scale", "e12.scl", "--a440", "--route", "dump", "--out", "out.mid", "-in.mid",
-        ],
-    ];
     let alloc = rt.alloc();
-    for words in cases {
+    for words in WRONG_WORDS {
         let fault = Fault::Usage { kind: 1 };
         let line = ["mtune: usage ", "1"];
         check_refused(&rt, alloc, E12, &ONE_NOTE, words, fault, 1, line)?;
@@ -243,50 +247,52 @@ fn at_event(position: u32, kind: SourceKind) -> Fault {
     })
 }
 
+/// What a source may not hold: the selection of the tuning program; of the number of members; data increment; mono; a port
+/// behind another; a key beyond the device. Each with the position and the kind that are told.
+const NOT_IN_A_SOURCE: [(&[u8], u32, SourceKind, &str); 6] = [
+    (
+        b"\x00\xb0\x65\x00\x00\x64\x03\x00\x06\x01\x00\xff\x2f\x00",
+        3,
+        SourceKind::TuningInSource,
+        "3 tick 0 track 0 kind 7",
+    ),
+    (
+        b"\x00\xb0\x65\x00\x00\x64\x06\x00\x06\x01\x00\xff\x2f\x00",
+        3,
+        SourceKind::MpeSource,
+        "3 tick 0 track 0 kind 8",
+    ),
+    (
+        b"\x00\xb0\x60\x01\x00\xff\x2f\x00",
+        1,
+        SourceKind::DataStep,
+        "1 tick 0 track 0 kind 6",
+    ),
+    (
+        b"\x00\xb0\x7e\x01\x00\xff\x2f\x00",
+        1,
+        SourceKind::ModeMessage,
+        "1 tick 0 track 0 kind 5",
+    ),
+    (
+        b"\x00\xff\x21\x01\x00\x00\xff\x21\x01\x01\x00\xff\x2f\x00",
+        2,
+        SourceKind::Port,
+        "2 tick 0 track 0 kind 9",
+    ),
+    // key 69 is at 6,900 cents, so in steps of an octave key 63 is 300 cents below the device's lowest pitch
+    (
+        b"\x00\x90\x3f\x40\x10\x80\x3f\x40\x00\xff\x2f\x00",
+        1,
+        SourceKind::KeyOutOfDevice,
+        "1 tick 0 track 0 kind 2",
+    ),
+];
+
 #[test]
 fn what_a_source_may_not_hold_is_refused(rt: HostRuntime) -> Result<(), Fail> {
-    // the selection of the tuning program; of the number of members; data increment; mono; a bulk dump; a port behind another
-    let rows: [(&[u8], u32, SourceKind, &str); 6] = [
-        (
-            b"\x00\xb0\x65\x00\x00\x64\x03\x00\x06\x01\x00\xff\x2f\x00",
-            3,
-            SourceKind::TuningInSource,
-            "3 tick 0 track 0 kind 7",
-        ),
-        (
-            b"\x00\xb0\x65\x00\x00\x64\x06\x00\x06\x01\x00\xff\x2f\x00",
-            3,
-            SourceKind::MpeSource,
-            "3 tick 0 track 0 kind 8",
-        ),
-        (
-            b"\x00\xb0\x60\x01\x00\xff\x2f\x00",
-            1,
-            SourceKind::DataStep,
-            "1 tick 0 track 0 kind 6",
-        ),
-        (
-            b"\x00\xb0\x7e\x01\x00\xff\x2f\x00",
-            1,
-            SourceKind::ModeMessage,
-            "1 tick 0 track 0 kind 5",
-        ),
-        (
-            b"\x00\xff\x21\x01\x00\x00\xff\x21\x01\x01\x00\xff\x2f\x00",
-            2,
-            SourceKind::Port,
-            "2 tick 0 track 0 kind 9",
-        ),
-        // key 69 is at 6,900 cents, so in steps of an octave key 63 is 300 cents below the device's lowest pitch
-        (
-            b"\x00\x90\x3f\x40\x10\x80\x3f\x40\x00\xff\x2f\x00",
-            1,
-            SourceKind::KeyOutOfDevice,
-            "1 tick 0 track 0 kind 2",
-        ),
-    ];
     let alloc = rt.alloc();
-    for (content, position, kind, rest) in rows {
+    for (content, position, kind, rest) in NOT_IN_A_SOURCE {
         let input = file(alloc, 0, 1, &[content])?;
         let fault = at_event(position, kind);
         let line = ["mtune: input event ", rest];

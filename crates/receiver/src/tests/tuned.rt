@@ -49,9 +49,27 @@ const SEMITONE: i128 = 3_200_000_000_000;
 
 const STEP: i128 = 390_625_000;
 
+/// Selects program 5 on the first channel.
+const SELECT: [Said; 3] = [
+    Said::Control(0, 101, 0),
+    Said::Control(0, 100, 3),
+    Said::Control(0, 6, 5),
+];
+
+const RESET: &[u8] = &[0x7e, 0x7f, 0x09, 0x01, 0xf7];
+
+/// A note on key 69 of the first channel, by program 5, of which a change tunes the key a semitone
+/// high.
+fn tune(listener: &mut Listener) -> bool {
+    let bytes = note_change(5, 69, 70 * 16384);
+    take_all(listener, &[Said::On(0, 69, 64)])
+        && take_all(listener, &SELECT)
+        && take_system(listener, bytes.as_slice())
+}
+
 #[test]
-fn a_note_plays_its_tuning_with_all_bends(rt: HostRuntime) {
-    use Said::{Bend, Control, Off, On, System};
+fn a_note_plays_the_tuning_of_its_program(rt: HostRuntime) {
+    use Said::On;
     let mut listener = Listener::new();
     assert_eq!(rt; pitch(&listener, 0, 69), None);
     assert!(rt;
@@ -70,12 +88,7 @@ fn a_note_plays_its_tuning_with_all_bends(rt: HostRuntime) {
     let bytes = dump(5, &values);
     assert!(rt; take_system(&mut listener, bytes.as_slice()));
     assert_eq!(rt; pitch(&listener, 0, 69), Some(A));
-    assert!(rt;
-        take_all(
-            &mut listener,
-            &[Control(0, 101, 0), Control(0, 100, 3), Control(0, 6, 5)]
-        )
-    );
+    assert!(rt; take_all(&mut listener, &SELECT));
     assert_eq!(rt; pitch(&listener, 0, 69), Some(A + SEMITONE / 4));
     assert_eq!(rt; pitch(&listener, 0, 81), Some(HIGH_A));
     assert_eq!(rt; pitch(&listener, 1, 60), Some(C));
@@ -85,6 +98,14 @@ fn a_note_plays_its_tuning_with_all_bends(rt: HostRuntime) {
     let bytes = note_change(4, 69, 0);
     assert!(rt; take_system(&mut listener, bytes.as_slice()));
     assert_eq!(rt; pitch(&listener, 0, 69), Some(A + SEMITONE));
+}
+
+#[test]
+fn a_note_plays_its_channels_tuning_and_bend(rt: HostRuntime) {
+    use Said::{Bend, Control, On};
+    let mut listener = Listener::new();
+    assert!(rt; tune(&mut listener));
+    assert!(rt; take_all(&mut listener, &[On(1, 60, 64)]));
     // fine tuning 65, 1: 129 steps up; coarse tuning 63: a semitone down
     assert!(rt;
         take_all(
@@ -109,49 +130,47 @@ fn a_note_plays_its_tuning_with_all_bends(rt: HostRuntime) {
         Some(A + 129 * STEP - SEMITONE * 3 / 4)
     );
     assert_eq!(rt; pitch(&listener, 1, 60), Some(C));
-    // a reset forgets the tunings
-    let reset: &[u8] = &[0x7e, 0x7f, 0x09, 0x01, 0xf7];
-    assert!(rt; take_system(&mut listener, reset));
+}
+
+#[test]
+fn a_reset_forgets_the_tunings(rt: HostRuntime) {
+    use Said::{Off, On, System};
+    let mut listener = Listener::new();
+    assert!(rt; tune(&mut listener));
+    assert_eq!(rt; pitch(&listener, 0, 69), Some(A + SEMITONE));
+    assert!(rt; take_system(&mut listener, RESET));
     assert_eq!(rt; pitch(&listener, 0, 69), None);
-    assert!(rt;
-        take_all(
-            &mut listener,
-            &[
-                On(0, 69, 64),
-                Control(0, 101, 0),
-                Control(0, 100, 3),
-                Control(0, 6, 5)
-            ]
-        )
-    );
+    assert!(rt; take_all(&mut listener, &[On(0, 69, 64)]));
+    assert!(rt; take_all(&mut listener, &SELECT));
     assert_eq!(rt; pitch(&listener, 0, 69), Some(A));
     assert!(rt; take_all(&mut listener, &[Off(0, 69, 64), System(0xf0, &[0x00])]));
     assert_eq!(rt; pitch(&listener, 0, 69), None);
 }
 
+/// A zone of three members, with 2 semitones on the master and 48 on a member; the master's fine
+/// tuning is a step up, and the member's tuning and program have no effect. Then a note on each.
+const ZONE: [Said; 14] = [
+    Said::Control(0, 101, 0),
+    Said::Control(0, 100, 6),
+    Said::Control(0, 6, 3),
+    Said::Control(0, 100, 1),
+    Said::Control(0, 38, 1),
+    Said::Control(1, 101, 0),
+    Said::Control(1, 100, 2),
+    Said::Control(1, 6, 65),
+    Said::Control(1, 100, 3),
+    Said::Control(1, 6, 9),
+    Said::Control(0, 100, 3),
+    Said::Control(0, 6, 7),
+    Said::On(1, 69, 64),
+    Said::On(0, 69, 64),
+];
+
 #[test]
 fn a_member_has_its_masters_tuning_and_both_bends(rt: HostRuntime) {
-    use Said::{Bend, Control, On};
+    use Said::{Bend, Control};
     let mut listener = Listener::new();
-    let set_up = [
-        // a zone of three members: 2 semitones on the master, 48 on a member
-        Control(0, 101, 0),
-        Control(0, 100, 6),
-        Control(0, 6, 3),
-        // the master's fine tuning: a step up; the member's, and its program, have no effect
-        Control(0, 100, 1),
-        Control(0, 38, 1),
-        Control(1, 101, 0),
-        Control(1, 100, 2),
-        Control(1, 6, 65),
-        Control(1, 100, 3),
-        Control(1, 6, 9),
-        Control(0, 100, 3),
-        Control(0, 6, 7),
-        On(1, 69, 64),
-        On(0, 69, 64),
-    ];
-    assert!(rt; take_all(&mut listener, &set_up));
+    assert!(rt; take_all(&mut listener, &ZONE));
     assert_eq!(rt; pitch(&listener, 1, 69), Some(A + STEP));
     let bytes = note_change(9, 69, 0);
     assert!(rt; take_system(&mut listener, bytes.as_slice()));
@@ -183,14 +202,23 @@ fn has_room(listener: &Listener, said: Said) -> bool {
     }
 }
 
+/// Gives sixteen parameters of the first channel, 1/0 to 1/15, a value.
+fn fill(listener: &mut Listener) -> bool {
+    let mut is_taken = take_all(listener, &[Said::Control(0, 99, 1)]);
+    for low in 0..16u8 {
+        is_taken = take_all(
+            listener,
+            &[Said::Control(0, 98, low), Said::Control(0, 6, 1)],
+        ) && is_taken;
+    }
+    is_taken
+}
+
 #[test]
 fn a_seventeenth_parameter_has_no_room(rt: HostRuntime) {
     use Said::{Control, On, System};
     let mut listener = Listener::new();
-    assert!(rt; take_all(&mut listener, &[Control(0, 99, 1)]));
-    for low in 0..16u8 {
-        assert!(rt; take_all(&mut listener, &[Control(0, 98, low), Control(0, 6, 1)]));
-    }
+    assert!(rt; fill(&mut listener));
     assert!(rt; take_all(&mut listener, &[Control(0, 98, 16)]));
     assert!(rt; !has_room(&listener, Control(0, 6, 1)));
     assert!(rt; !has_room(&listener, Control(0, 38, 1)));
@@ -202,11 +230,18 @@ fn a_seventeenth_parameter_has_no_room(rt: HostRuntime) {
         Control(0, 7, 1),
         Control(0, 121, 0),
         On(0, 60, 64),
-        System(0xf0, &[0x7e, 0x7f, 0x09, 0x01, 0xf7]),
+        System(0xf0, RESET),
     ];
     for said in others {
         assert!(rt; has_room(&listener, said), "{said:?}");
     }
+}
+
+#[test]
+fn a_parameter_that_was_given_a_value_has_room(rt: HostRuntime) {
+    use Said::Control;
+    let mut listener = Listener::new();
+    assert!(rt; fill(&mut listener));
     // one that is there already, and those that don't count
     assert!(rt; take_all(&mut listener, &[Control(0, 98, 3)]));
     assert!(rt; has_room(&listener, Control(0, 6, 2)));
