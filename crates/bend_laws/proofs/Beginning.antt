@@ -155,7 +155,7 @@ cut_played port o table k t c j x w a b g h part = elim (cases_Bool (sounds a)) 
     d : ℕ
     d = k.new (pair_with port c x)
 
-cut_match : (port : ℕ) (o : Options) (table : Targets) (k : Moment) (t c j : ℕ) (x : BendTarget) → Strike port o table k t c j x → (a b : Note) →
+pub cut_match : (port : ℕ) (o : Options) (table : Targets) (k : Moment) (t c j : ℕ) (x : BendTarget) → Strike port o table k t c j x → (a b : Note) →
     Seen port o table k t c j x a b → IsMatched port o table k.new (cut_off t c j a) (cut_off t (k.new (pair_with port c x)) x.key b)
 cut_match port o table k t c j x w a b (m, g) = record {
   retuned = ap (is_part o) (cut_channel t (k.new (pair_with port c x)) x.key b) ∙ m.retuned ∙ ap (is_part o) (sym (cut_channel t c j a));

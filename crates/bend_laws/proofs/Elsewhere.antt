@@ -189,7 +189,7 @@ drum_block port o table k before out t track msg h =
     ap (λ b. placed_at (said_at t track msg) (cond b (map Says (part_causes port o table k before (step before (said_at t track msg)) out t msg))
     (Says msg ∷ []))) h
 
-no_entry : (o : Options) (m : Music) (msg : Msg) → is_part o (channel_of msg) ≡ false → is_zone_entry o m msg ≡ false
+pub no_entry : (o : Options) (m : Music) (msg : Msg) → is_part o (channel_of msg) ≡ false → is_zone_entry o m msg ≡ false
 no_entry o m (NoteOn c k v) h = refl
 no_entry o m (NoteOff c k v) h = refl
 no_entry o m (KeyPressure c k v) h = refl
@@ -198,7 +198,7 @@ no_entry o m (Program c p) h = refl
 no_entry o m (Pressure c v) h = refl
 no_entry o m (Bend c v) h = refl
 
-drum_begins : (port : ℕ) (o : Options) (table : Targets) (t : ℕ) (msg : Msg) → is_part o (channel_of msg) ≡ false → (p : Pair) →
+pub drum_begins : (port : ℕ) (o : Options) (table : Targets) (t : ℕ) (msg : Msg) → is_part o (channel_of msg) ≡ false → (p : Pair) →
     Begins port o table t (Says msg) p → ⊥
 drum_begins port o table t (NoteOn c k zero) h p b = b
 drum_begins port o table t (NoteOn c k (suc v)) h p b = both_ways (is_part o c) h b.0
@@ -233,7 +233,7 @@ apart_append o table (a ∷ rest) n h g = (all_append_one rest h.0 g.0, apart_ap
 apart_none : (o : Options) (table : Targets) (ns : List Note) → AreApart o table ns → AreApart o table (ns ++ [])
 apart_none o table ns h = subst (AreApart o table) (sym (append-nil ns)) h
 
-drum_apart : (o : Options) (table : Targets) (m : Music) (t : ℕ) (msg : Msg) → is_part o (channel_of msg) ≡ false → AreApart o table m.notes →
+pub drum_apart : (o : Options) (table : Targets) (m : Music) (t : ℕ) (msg : Msg) → is_part o (channel_of msg) ≡ false → AreApart o table m.notes →
     AreApart o table (m.notes ++ begun_by m t (Plays msg))
 drum_apart o table m t (NoteOn c k zero) h a = apart_none o table m.notes a
 drum_apart o table m t (NoteOn c k (suc v)) h a =

@@ -29,7 +29,7 @@ pub record Laws (Good : State → Type 0) : Type 0 where
   pub zones : OnlyZoneEntriesAskForZones
 
 -- where none of the tests is the first to hold, none holds
-none_holds : (xs : List (Kind × Bool)) → first_that xs ≡ None → AllByRecursion (λ x. x.1 ≡ false) xs
+pub none_holds : (xs : List (Kind × Bool)) → first_that xs ≡ None → AllByRecursion (λ x. x.1 ≡ false) xs
 none_holds [] e = tt
 none_holds (x ∷ xs) e = pick x.1 refl e (none_holds xs)
   where

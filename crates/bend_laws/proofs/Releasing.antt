@@ -61,7 +61,7 @@ pub target_eq : (a b : BendTarget) → a.key ≡ b.key → a.steps ≡ b.steps �
 target_eq a b h g = ap (λ x. let y : BendTarget = record { key = x; steps = a.steps } in y) h
     ∙ ap (λ x. let y : BendTarget = record { key = b.key; steps = x } in y) g
 
-hits_alike : (port : ℕ) (o : Options) (table : Targets) (k : Moment) (c j : ℕ) (n : Note) (t : BendTarget) → IsReleased port o table k c n t →
+pub hits_alike : (port : ℕ) (o : Options) (table : Targets) (k : Moment) (c j : ℕ) (n : Note) (t : BendTarget) → IsReleased port o table k c n t →
     ((p q : Pair) → Has k.holds p → Has k.holds q → k.old p ≡ k.old q → p ≡ q) → (a b : Note) →
     (h : IsPlayedBy port o table k.old a b) → is_part o a.channel ≡ true → (sounds a ≡ true → Has k.holds (pair_with port a.channel h.target)) →
     Tells o table c j n a →
@@ -159,10 +159,10 @@ lifted_match Good port o table used k b e follows sound t c j v n aim r x y ((m,
 }
 
 -- a note of a part has a target
-abbrev HasAim : Options → Targets → Note → Type 0
+abbrev pub HasAim : Options → Targets → Note → Type 0
 HasAim o table a = is_part o a.channel ≡ true → (t : BendTarget) × (target_of o table a ≡ Some t)
 
-has_aim : (port : ℕ) (o : Options) (table : Targets) (place : Pair → ℕ) (a b : Note) → IsMatched port o table place a b → HasAim o table a
+pub has_aim : (port : ℕ) (o : Options) (table : Targets) (place : Pair → ℕ) (a b : Note) → IsMatched port o table place a b → HasAim o table a
 has_aim port o table place a b m p = let h : IsPlayedBy port o table place a b = m.played p in (h.target, h.aim)
 
 -- nothing is hit

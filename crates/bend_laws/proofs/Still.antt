@@ -96,7 +96,7 @@ passed_block port o table k before out t track (Says msg) h = absurd h
 passed_block port o table k before out t track (SysexOf lead bytes) h = refl
 passed_block port o table k before out t track (MetaOf kind bytes) h = refl
 
-none_passed : (port : ℕ) (o : Options) (table : Targets) (t : ℕ) (w : MidiWhat) → IsPassed w → (p : Pair) → Begins port o table t w p → ⊥
+pub none_passed : (port : ℕ) (o : Options) (table : Targets) (t : ℕ) (w : MidiWhat) → IsPassed w → (p : Pair) → Begins port o table t w p → ⊥
 none_passed port o table t (Says msg) h p b = h
 none_passed port o table t (SysexOf lead bytes) h p b = b
 none_passed port o table t (MetaOf kind bytes) h p b = b

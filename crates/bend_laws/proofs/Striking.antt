@@ -105,7 +105,7 @@ cut_fades t c j (n ∷ ns) = (cond_both (is_at c j n) (ending t n) n (Fades n) (
 
 -- ---- the target
 
-some_if : (b : Bool) (x : Option BendTarget) → not (is_some x) ≡ false → (t : BendTarget) × (x ≡ Some t)
+pub some_if : (b : Bool) (x : Option BendTarget) → not (is_some x) ≡ false → (t : BendTarget) × (x ≡ Some t)
 some_if b None h = absurd cc
 some_if b (Some t) h = (t, refl)
 
@@ -133,12 +133,12 @@ pub any_false : (f : Note → Bool) (ns : List Note) → any_note f ns ≡ false
 any_false f [] h = tt
 any_false f (n ∷ ns) h = let e = or_parts (f n) (any_note f ns) h in (e.0, any_false f ns e.1)
 
-two_false : (a b x : Bool) → a ≡ true → b ≡ true → (a && (b && x)) ≡ false → x ≡ false
+pub two_false : (a b x : Bool) → a ≡ true → b ≡ true → (a && (b && x)) ≡ false → x ≡ false
 two_false true true x h g i = i
 two_false true false x h g i = absurd cc
 two_false false b x h g i = absurd cc
 
-not_both : (a b x : Bool) → ((a && b) && x) ≡ false → a ≡ true → b ≡ true → x ≡ false
+pub not_both : (a b x : Bool) → ((a && b) && x) ≡ false → a ≡ true → b ≡ true → x ≡ false
 not_both true true x i h g = i
 not_both true false x i h g = absurd cc
 not_both false b x i h g = absurd cc

@@ -1,0 +1,49 @@
+-- A source with zones and a plan of their members for each of its ports, as the MPE route is given one.
+use Rattle.std.specs.Prelude.{◌≡◌, ◌≢◌, ◌≤◌, ◌<◌, ℕ, Bool, true, false, List, [], ◌∷◌, Some}
+use Rattle.std.specs.List.{AllByRecursion}
+use Rattle.std.specs.Set.{is_member}
+use Rattle.mt_base.specs.Midi.{MidiEvent}
+use Rattle.mt_base.specs.Valid.{IsValidEvent}
+use Rattle.retune_model.specs.Options.{Options, ByMpe}
+use Rattle.retune_model.specs.Faults.{Targets, is_part}
+use Rattle.retune_model.specs.Pairs.{Pair, is_same_pair}
+use Rattle.retune_model.specs.SourceFaults.{IsSound}
+use Rattle.retune_model.specs.PortNeed.{pairs_on}
+use Rattle.channel_model.specs.MpeOutput.{Zone, zone_of, lower_allowed, upper_allowed}
+use Rattle.channel_model.specs.Rows.{IsZonePlan}
+
+-- a zone of a part, the upper one or the lower one, of at least one member and at most so many
+pub record IsZone (o : Options) (upper : Bool) (most : ℕ) (zone : Zone) : Type 0 where
+  pub channel : zone.part < 16
+  pub retuned : is_part o zone.part ≡ true
+  pub side : zone.upper ≡ upper
+  pub some : 0 < zone.members
+  pub few : zone.members ≤ most
+
+-- No zone; or the lower one; or the lower and the upper one, of two parts. Each with an allowed number of members, which leaves channel 10
+-- out where drums are kept.
+abbrev pub AreAllowed : Options → List Zone → Type 0
+AreAllowed o [] = Unit {0}
+AreAllowed o (l ∷ []) = IsZone o false (lower_allowed o.keep_drums (l ∷ [])) l
+AreAllowed o (l ∷ u ∷ []) = IsZone o false (lower_allowed o.keep_drums (l ∷ u ∷ [])) l × (IsZone o true (upper_allowed o.keep_drums) u × (l.part ≢ u.part))
+AreAllowed o (l ∷ u ∷ _ ∷ _) = ⊥
+
+-- the plan of a zone, with its instant and its row
+pub record HasZonePlan (o : Options) (table : Targets) (es : List MidiEvent) (z : ℕ) (zone : Zone) (channel : ℕ → Pair → ℕ) : Type 0 where
+  pub instant : ℕ
+  pub row : ℕ → ℕ
+  pub plan : IsZonePlan o table es z zone instant row channel
+
+-- What a port has: allowed zones, among them one of each part that has a pair; and a plan of each zone.
+pub record IsZonedPort (o : Options) (table : Targets) (es : List MidiEvent) (z : ℕ) (zones : List Zone) (channel : ℕ → Pair → ℕ) : Type 0 where
+  pub allowed : AreAllowed o zones
+  pub zoned : (k : ℕ) (p : Pair) → is_member is_same_pair (pairs_on o (is_part o) table es z k) p ≡ true →
+      (zone : Zone) × (zone_of p.part.channel zones ≡ Some zone)
+  pub plans : (c : ℕ) (zone : Zone) → zone_of c zones ≡ Some zone → HasZonePlan o table es z zone channel
+
+-- The events are valid and have no fault, and each port has zones and plans.
+pub record IsMpe (o : Options) (table : Targets) (es : List MidiEvent) (zones : ℕ → List Zone) (channel : ℕ → ℕ → Pair → ℕ) : Type 0 where
+  pub route : o.route ≡ ByMpe
+  pub valid : AllByRecursion IsValidEvent es
+  pub sound : IsSound o table es
+  pub ports : (z : ℕ) → IsZonedPort o table es z (zones z) (channel z)

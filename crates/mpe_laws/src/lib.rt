@@ -1,0 +1,8 @@
+//! What the MPE route writes plays the same: laws alone. The functions do nothing: their contracts are what is stated.
+#![tactic(auto)]
+
+mod files;
+mod follows;
+
+pub use files::mpe_ports_follow;
+pub use follows::{mpe_follows, zones_are_set_up};
