@@ -36,12 +36,12 @@ use Rattle.bend_laws.proofs.Righting.{IsRight, Shaped, shaped_at, no_drum}
 abbrev pub NoDrums : List MidiEvent → Type 0
 NoDrums es = AllByRecursion (λ e. is_drum_message e.what ≡ false) es
 
-none_has : (es : List MidiEvent) → has_drums es ≡ false → NoDrums es
+pub none_has : (es : List MidiEvent) → has_drums es ≡ false → NoDrums es
 none_has [] h = tt
 none_has (e ∷ es) h = let g = or_parts (is_drum_message e.what) (has_drums es) h in (g.0, none_has es g.1)
 
 -- the event at a position is one of them
-is_one : (P : MidiEvent → Type 0) (ns : List Numbered) → AllByRecursion P (unnumbered ns) → (k : ℕ) (e : MidiEvent) → port_event ns k ≡ Some e → P e
+pub is_one : (P : MidiEvent → Type 0) (ns : List Numbered) → AllByRecursion P (unnumbered ns) → (k : ℕ) (e : MidiEvent) → port_event ns k ≡ Some e → P e
 is_one P [] h k e is = absurd cc
 is_one P (n ∷ ns) h k e is = pick (nat_eq n.position k) is (λ g. is_one P ns h.1 k e g)
   where
@@ -76,7 +76,7 @@ none_to Good laws o table used row plan ns last given keep none (suc k) low =
 
 -- ---- notes
 
-abbrev NoDrumNotes : List Note → Type 0
+abbrev pub NoDrumNotes : List Note → Type 0
 NoDrumNotes ns = AllByRecursion (λ (n : Note). nat_eq n.channel 9 ≡ false) ns
 
 faded_none : (ns xs : List Note) → AllFade ns xs → NoDrumNotes ns → NoDrumNotes xs
@@ -106,7 +106,7 @@ begun_none m t (Says msg) h = message_none m t msg h
 begun_none m t (SysexOf lead bytes) h = silent_none m t (doing (SysexOf lead bytes)) (no_message (SysexOf lead bytes) tt)
 begun_none m t (MetaOf kind bytes) h = tt
 
-played_none : NotesFade → (m : Music) (es : List MidiEvent) → NoDrums es → NoDrumNotes m.notes → NoDrumNotes (play m es).notes
+pub played_none : NotesFade → (m : Music) (es : List MidiEvent) → NoDrums es → NoDrumNotes m.notes → NoDrumNotes (play m es).notes
 played_none law m [] h g = g
 played_none law m (e ∷ es) h g =
     played_none law (step m e) es h.1
@@ -124,7 +124,7 @@ tick_none law t es h = subst (λ (m : Music). NoDrumNotes m.notes) (sym (music_a
 
 -- ---- the two tests agree elsewhere
 
-either : (a b : Bool) (c : ℕ) → nat_eq c 9 ≡ false → is_retuned a c ≡ is_retuned b c
+pub either : (a b : Bool) (c : ℕ) → nat_eq c 9 ≡ false → is_retuned a c ≡ is_retuned b c
 either true true c h = refl
 either false false c h = refl
 either true false c h = ap not h

@@ -49,7 +49,7 @@ use Rattle.bend_laws.proofs.Bridge.{ReceiversStay}
 
 -- ---- beginnings of lists
 
-begin_append : (part : ℕ → Bool) (b xs ys : List MidiEvent) → beginnings_from part b (xs ++ ys)
+pub begin_append : (part : ℕ → Bool) (b xs ys : List MidiEvent) → beginnings_from part b (xs ++ ys)
     ≡ beginnings_from part b xs ++ beginnings_from part (b ++ xs) ys
 begin_append part b [] ys = ap (λ zs. beginnings_from part zs ys) (sym (append-nil b))
 begin_append part b (x ∷ xs) ys =
@@ -58,7 +58,7 @@ begin_append part b (x ∷ xs) ys =
     ∙ sym (append_assoc (beginning part now x) (beginnings_from part now xs) (beginnings_from part (now ++ xs) ys))
     ∙ ap (λ zs. (beginning part now x ++ beginnings_from part now xs) ++ beginnings_from part zs ys) (append_assoc b (x ∷ []) xs)
 
-none_begins : (part : ℕ → Bool) (msg : Msg) → NoNote msg → begins_note part (Says msg) ≡ false
+pub none_begins : (part : ℕ → Bool) (msg : Msg) → NoNote msg → begins_note part (Says msg) ≡ false
 none_begins part (NoteOn c k zero) h = refl
 none_begins part (NoteOn c k (suc v)) h = absurd h
 none_begins part (NoteOff c k v) h = refl
@@ -71,14 +71,14 @@ none_begins part (Bend c v) h = refl
 no_beginning : (part : ℕ → Bool) (now : List MidiEvent) (e : MidiEvent) → begins_note part e.what ≡ false → beginning part now e ≡ []
 no_beginning part now e h = ap (λ b. cond b (last_note now e.track (after now).music.notes) []) h
 
-no_beginnings : (part : ℕ → Bool) (b : List MidiEvent) (e : MidiEvent) (ms : List Msg) → NoNotes ms → beginnings_from part b (saying e ms) ≡ []
+pub no_beginnings : (part : ℕ → Bool) (b : List MidiEvent) (e : MidiEvent) (ms : List Msg) → NoNotes ms → beginnings_from part b (saying e ms) ≡ []
 no_beginnings part b e [] h = refl
 no_beginnings part b e (m ∷ ms) h =
     let x : MidiEvent = record e { what = Says m } in
     let now : List MidiEvent = b ++ x ∷ [] in
     ap (λ zs. zs ++ beginnings_from part now (saying e ms)) (no_beginning part now x (none_begins part m h.0)) ∙ no_beginnings part now e ms h.1
 
-drum_begins : (o : Options) (msg : Msg) → is_part o (channel_of msg) ≡ false → begins_note (is_part o) (Says msg) ≡ false
+pub drum_begins : (o : Options) (msg : Msg) → is_part o (channel_of msg) ≡ false → begins_note (is_part o) (Says msg) ≡ false
 drum_begins o (NoteOn c k zero) h = refl
 drum_begins o (NoteOn c k (suc v)) h = h
 drum_begins o (NoteOff c k v) h = refl
@@ -131,16 +131,16 @@ retuned_end o xs n part = filter-append (λ x. is_part o x.channel) xs (n ∷ []
 -- ---- one block
 
 -- once two lists of events have come, the retuned notes that sound are heard alike
-abbrev HeardAlike : Scaling → Options → List MidiEvent → List MidiEvent → Type 0
+abbrev pub HeardAlike : Scaling → Options → List MidiEvent → List MidiEvent → Type 0
 HeardAlike scaling o es xs =
     Pairwise (λ x y. sounds x ≡ true → SoundsTheSame scaling o (plain_device o) es xs x y) (retuned o (after es).music.notes)
     (retuned o (after xs).music.notes)
 
-abbrev StartAlike : Scaling → Options → List Beginning → List Beginning → Type 0
+abbrev pub StartAlike : Scaling → Options → List Beginning → List Beginning → Type 0
 StartAlike scaling o xs ys = Pairwise (BeginsAlike scaling o (plain_device o)) xs ys
 
 -- a new note, behind messages that begin none
-struck_alike : NotesFade → (scaling : Scaling) (o : Options) (es xs : List MidiEvent) (t track c j v d i : ℕ) (ms : List Msg) →
+pub struck_alike : NotesFade → (scaling : Scaling) (o : Options) (es xs : List MidiEvent) (t track c j v d i : ℕ) (ms : List Msg) →
     is_part o c ≡ true → is_part o d ≡ true → NoNotes ms →
     (after es).music.zones ≡ no_zones → IsSettled (after es).music →
     (let e : MidiEvent = said_at t track (NoteOn c j (suc v)) in let block : List MidiEvent = saying e (ms ++ NoteOn d i (suc v) ∷ []) in
@@ -186,10 +186,10 @@ struck_alike law scaling o es xs t track c j v d i ms part there none z settled 
     (subst (λ q. StartAlike scaling o (one_beginning es1 track n) q) (sym right) (record { track = refl; pitch = alike.pitch }, tt))
 
 -- nothing begins on either side
-neither : (scaling : Scaling) (o : Options) (xs ys : List Beginning) → xs ≡ [] → ys ≡ [] → StartAlike scaling o xs ys
+pub neither : (scaling : Scaling) (o : Options) (xs ys : List Beginning) → xs ≡ [] → ys ≡ [] → StartAlike scaling o xs ys
 neither scaling o xs ys h g = subst (λ zs. StartAlike scaling o zs ys) (sym h) (subst (λ zs. StartAlike scaling o [] zs) (sym g) tt)
 
-one_none : (part : ℕ → Bool) (b : List MidiEvent) (e : MidiEvent) → begins_note part e.what ≡ false → beginnings_from part b (e ∷ []) ≡ []
+pub one_none : (part : ℕ → Bool) (b : List MidiEvent) (e : MidiEvent) → begins_note part e.what ≡ false → beginnings_from part b (e ∷ []) ≡ []
 one_none part b e h = ap (λ zs. zs ++ []) (no_beginning part (b ++ e ∷ []) e h)
 
 -- what is known where a block begins

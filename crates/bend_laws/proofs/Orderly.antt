@@ -39,11 +39,11 @@ output_places P o table runs ports k s (e ∷ es) h =
 itself : (e : MidiEvent) → precedes e e ≡ true
 itself e = ap (λ b. cond b (nat_le e.track e.track) (nat_lt e.tick e.tick)) (eq-eqb e.tick e.tick refl) ∙ le-leb e.track e.track (omega arith)
 
-abbrev at : MidiEvent → ℕ → ℕ → MidiEvent
+abbrev pub at : MidiEvent → ℕ → ℕ → MidiEvent
 at e t track = record e { tick = t; track = track }
 
 -- a block, before events that may stand behind its own
-order_block : (e : MidiEvent) (ws : List MidiWhat) (ys : List MidiEvent) → AllByRecursion (λ y. precedes e y ≡ true) ys → InOrder ys →
+pub order_block : (e : MidiEvent) (ws : List MidiWhat) (ys : List MidiEvent) → AllByRecursion (λ y. precedes e y ≡ true) ys → InOrder ys →
     InOrder (placed_at e ws ++ ys)
 order_block e [] ys p h = h
 order_block e (w ∷ ws) ys p h = (
@@ -76,10 +76,10 @@ nothing_after : (e : MidiEvent) (es : List MidiEvent) → is_end e.what ≡ true
 nothing_after e [] h g = refl
 nothing_after e (f ∷ es) h g = absurd (let is : is_end e.what ≡ false = g.0 in cc)
 
-abbrev Elsewhere : ℕ → List MidiEvent → Type 0
+abbrev pub Elsewhere : ℕ → List MidiEvent → Type 0
 Elsewhere t es = AllByRecursion (λ e. eqb e.track t ≡ false) es
 
-is_elsewhere : (t : ℕ) (es : List MidiEvent) → of_track t es ≡ [] → Elsewhere t es
+pub is_elsewhere : (t : ℕ) (es : List MidiEvent) → of_track t es ≡ [] → Elsewhere t es
 is_elsewhere t [] h = tt
 is_elsewhere t (e ∷ es) h = pick (eqb e.track t) refl h (is_elsewhere t es)
   where
@@ -88,12 +88,12 @@ is_elsewhere t (e ∷ es) h = pick (eqb e.track t) refl h (is_elsewhere t es)
     pick true is g f = absurd cc
     pick false is g f = (is, f g)
 
-none_there : (t : ℕ) (es : List MidiEvent) → Elsewhere t es → of_track t es ≡ []
+pub none_there : (t : ℕ) (es : List MidiEvent) → Elsewhere t es → of_track t es ≡ []
 none_there t [] h = refl
 none_there t (e ∷ es) h = ap (λ b. cond b (e ∷ of_track t es) (of_track t es)) h.0 ∙ none_there t es h.1
 
 -- a block without an end, in its track, before what ends it
-ends_block : (t : ℕ) (e : MidiEvent) (ws : List MidiWhat) → AllByRecursion (λ w. is_end w ≡ false) ws → (ys : List MidiEvent) →
+pub ends_block : (t : ℕ) (e : MidiEvent) (ws : List MidiWhat) → AllByRecursion (λ w. is_end w ≡ false) ws → (ys : List MidiEvent) →
     EndsOnce (of_track t ys) → EndsOnce (of_track t (placed_at e ws ++ ys))
 ends_block t e [] h ys g = g
 ends_block t e (w ∷ ws) h ys g =
@@ -103,7 +103,7 @@ ends_block t e (w ∷ ws) h ys g =
     (of_track t (placed_at e ws ++ ys)) EndsOnce (λ k. ends_cons x (of_track t (placed_at e ws ++ ys)) h.0 rest) (λ k. rest)
 
 -- an event that is passed on
-ends_passed : (b : Bool) (e : MidiEvent) (source out : List MidiEvent) → (source ≡ [] → out ≡ []) → (EndsOnce source → EndsOnce out) →
+pub ends_passed : (b : Bool) (e : MidiEvent) (source out : List MidiEvent) → (source ≡ [] → out ≡ []) → (EndsOnce source → EndsOnce out) →
     EndsOnce (cond b (e ∷ source) source) → EndsOnce (cond b (e ∷ out) out)
 ends_passed false e source out none later h = later h
 ends_passed true e source out none later h = elim (cases_Bool (is_end e.what)) [
@@ -112,7 +112,7 @@ ends_passed true e source out none later h = elim (cases_Bool (is_end e.what)) [
 ]
 
 -- an event that is no end
-ends_later : (b : Bool) (e : MidiEvent) (source : List MidiEvent) → is_end e.what ≡ false → EndsOnce (cond b (e ∷ source) source) → EndsOnce source
+pub ends_later : (b : Bool) (e : MidiEvent) (source : List MidiEvent) → is_end e.what ≡ false → EndsOnce (cond b (e ∷ source) source) → EndsOnce source
 ends_later false e source goes h = h
 ends_later true e source goes h = goes_on e source goes h
 

@@ -49,7 +49,7 @@ pub record PitchLaws : Type 0 where
 
 -- ---- within the bound
 
-heard_within : (laws : PitchLaws) (p : Pitch) (terms : ℕ) (ratios : List (ℕ × ℕ)) (b : Bounds) (range : ℕ) (t : BendTarget) (x n : ℤ) →
+pub heard_within : (laws : PitchLaws) (p : Pitch) (terms : ℕ) (ratios : List (ℕ × ℕ)) (b : Bounds) (range : ℕ) (t : BendTarget) (x n : ℤ) →
     AreBounds p terms ratios b → terms ≤ 1700 → 0 < range → bend_target range b ≡ Some t
     → n ≡ (pos (3200000000000 * t.key) +ℤ (pos (390625000 * range) *ℤ t.steps)) +ℤ x → Within (added p (exactly x)) n (195312500 * range + 32000000)
 heard_within laws p terms ratios b range t x n a few positive e same =
@@ -113,12 +113,12 @@ bent_is range q cs co h =
     away z = omega (arith, ints)
 
 -- the bounds of a key that has some are those of its pitch
-record HasPitch (scaling : Scaling) (k t : ℕ) (b : Bounds) : Type 0 where
-  pitch : Pitch
-  is : pitch_at scaling k t ≡ Some pitch
-  bounds : AreBounds pitch (terms_at scaling k t) (ratios_at_key scaling k t) b
+pub record HasPitch (scaling : Scaling) (k t : ℕ) (b : Bounds) : Type 0 where
+  pub pitch : Pitch
+  pub is : pitch_at scaling k t ≡ Some pitch
+  pub bounds : AreBounds pitch (terms_at scaling k t) (ratios_at_key scaling k t) b
 
-has_pitch : (scaling : Scaling) (table : Targets) (k t : ℕ) (b : Bounds) → IsTable scaling table → k < 128 → table k t ≡ Some b →
+pub has_pitch : (scaling : Scaling) (table : Targets) (k t : ℕ) (b : Bounds) → IsTable scaling table → k < 128 → table k t ≡ Some b →
     HasPitch scaling k t b
 has_pitch scaling table k t b is low e =
     let h : Bound (terms_at scaling k t) (ratios_at_key scaling k t) (pitch_at scaling k t) (Some b) =
@@ -139,7 +139,7 @@ pub record Scales (scaling : Scaling) (o : Options) (table : Targets) : Type 0 w
   pub bounds : IsTable scaling table
   pub few_terms : AreFewTerms scaling
 
-bounds_of : (o : Options) (table : Targets) (k t : ℕ) (x : BendTarget) → bend_target_if o.range (table k t) ≡ Some x → (b : Bounds) ×
+pub bounds_of : (o : Options) (table : Targets) (k t : ℕ) (x : BendTarget) → bend_target_if o.range (table k t) ≡ Some x → (b : Bounds) ×
     (table k t ≡ Some b) × (bend_target o.range b ≡ Some x)
 bounds_of o table k t x h = pick (table k t) refl h
   where

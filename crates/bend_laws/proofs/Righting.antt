@@ -206,7 +206,7 @@ pub record IsCaused (o : Options) (used : ℕ → Bool) (e : MidiEvent) (block :
   pub right : AllByRecursion (IsRight o used) messages
 
 -- the channel of a message, or of another where there is none
-abbrev channel_in : Msg → MidiWhat → ℕ
+abbrev pub channel_in : Msg → MidiWhat → ℕ
 channel_in m (Says msg) = channel_of msg
 channel_in m _ = channel_of m
 

@@ -12,7 +12,7 @@ use Rattle.channel_model.specs.Choice.{bend_value}
 steps_pos : (s k : ℕ) → pos s *ℤ pos k ≡ pos (s * k)
 steps_pos s k = refl
 
-steps_neg : (s k : ℕ) → pos s *ℤ negsuc k ≡ neg_ℤ (pos (s * suc k))
+pub steps_neg : (s k : ℕ) → pos s *ℤ negsuc k ≡ neg_ℤ (pos (s * suc k))
 steps_neg s k = refl
 
 pub record IsQuotient (s : ℕ) (z q : ℤ) : Type 0 where
@@ -96,7 +96,7 @@ pub record IsNear (lo : ℤ) (range : ℕ) (t : BendTarget) : Type 0 where
   pub low : (pos (3200000000000 * t.key) +ℤ (pos (390625000 * range) *ℤ t.steps)) ≤ℤ (lo +ℤ pos (195312500 * range))
   pub high : lo ≤ℤ ((pos (3200000000000 * t.key) +ℤ (pos (390625000 * range) *ℤ t.steps)) +ℤ pos (195312500 * range))
 
-up_to_is : (most : ℕ) (z : ℤ) (v : ℕ) → up_to most z ≡ Some v → z ≡ pos v
+pub up_to_is : (most : ℕ) (z : ℤ) (v : ℕ) → up_to most z ≡ Some v → z ≡ pos v
 up_to_is most (pos n) v e = pick (nat_le n most) e
   where
     pick : (b : Bool) → cond b (Some n) None ≡ Some v → pos n ≡ pos v
@@ -104,7 +104,7 @@ up_to_is most (pos n) v e = pick (nat_le n most) e
     pick false h = absurd cc
 up_to_is most (negsuc n) v e = absurd cc
 
-with_key : (q : ℤ) (x : Option ℕ) (t : BendTarget) → with_steps q x ≡ Some t → (x ≡ Some t.key) × (q ≡ t.steps)
+pub with_key : (q : ℤ) (x : Option ℕ) (t : BendTarget) → with_steps q x ≡ Some t → (x ≡ Some t.key) × (q ≡ t.steps)
 with_key q None t h = absurd cc
 with_key q (Some k) t h = (cc, cc)
 

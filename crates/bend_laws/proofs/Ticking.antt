@@ -36,12 +36,12 @@ use Rattle.bend_laws.proofs.Outputs.{none_yet, output_append, out_is, source_is_
 
 -- ---- the events up to a tick, and those later
 
-record Split (t : ℕ) (ns : List Numbered) : Type 0 where
-  early : List Numbered
-  late : List Numbered
-  is : ns ≡ early ++ late
-  early_ticks : AllByRecursion (λ (n : Numbered). n.event.tick ≤ t) early
-  late_ticks : AllByRecursion (λ (n : Numbered). t < n.event.tick) late
+pub record Split (t : ℕ) (ns : List Numbered) : Type 0 where
+  pub early : List Numbered
+  pub late : List Numbered
+  pub is : ns ≡ early ++ late
+  pub early_ticks : AllByRecursion (λ (n : Numbered). n.event.tick ≤ t) early
+  pub late_ticks : AllByRecursion (λ (n : Numbered). t < n.event.tick) late
 
 all_from : (a : ℕ) (ns : List Numbered) → AreInOrder a (unnumbered ns) → AllByRecursion (λ (n : Numbered). a ≤ n.event.tick) ns
 all_from a [] h = tt
@@ -51,7 +51,7 @@ all_from a (n ∷ ns) h = (
       (λ x g. omega (arith, g, h.0)) ns (all_from n.event.tick ns h.1),
 )
 
-split : (t a : ℕ) (ns : List Numbered) → AreInOrder a (unnumbered ns) → Split t ns
+pub split : (t a : ℕ) (ns : List Numbered) → AreInOrder a (unnumbered ns) → Split t ns
 split t a [] h = record { early = []; late = []; is = refl; early_ticks = tt; late_ticks = tt }
 split t a (n ∷ ns) h = elim (cases_lt t n.event.tick) [
   | inl l ↦ record {
@@ -76,7 +76,7 @@ split t a (n ∷ ns) h = elim (cases_lt t n.event.tick) [
 ]
 
 -- the position of the last
-last_from : ℕ → List Numbered → ℕ
+pub last_from : ℕ → List Numbered → ℕ
 last_from a [] = a
 last_from a (n ∷ ns) = last_from n.position ns
 
@@ -86,7 +86,7 @@ last_grows a [] ys h = omega arith
 last_grows a (n ∷ ns) ys h = let g : n.position ≤ last_from n.position ns = last_grows n.position ns ys h.1 in let l : a < n.position =
     h.0 in omega (arith, g, l)
 
-up_to_last : (a : ℕ) (xs ys : List Numbered) → Ascend a (xs ++ ys) → up_to_position (last_from a xs) (xs ++ ys) ≡ xs
+pub up_to_last : (a : ℕ) (xs ys : List Numbered) → Ascend a (xs ++ ys) → up_to_position (last_from a xs) (xs ++ ys) ≡ xs
 unfolding last_from
 up_to_last a [] ys h = none_yet a ys h a (omega arith)
 up_to_last a (n ∷ ns) ys h =
@@ -94,7 +94,7 @@ up_to_last a (n ∷ ns) ys h =
     (le-leb n.position (last_from n.position ns) (last_grows n.position ns ys h.1))
     ∙ ap (λ zs. n ∷ zs) (up_to_last n.position ns ys h.1)
 
-last_within : (a m : ℕ) (xs ys : List Numbered) → a ≤ m → AllByRecursion (λ (n : Numbered). n.position ≤ m) (xs ++ ys) → last_from a xs ≤ m
+pub last_within : (a m : ℕ) (xs ys : List Numbered) → a ≤ m → AllByRecursion (λ (n : Numbered). n.position ≤ m) (xs ++ ys) → last_from a xs ≤ m
 unfolding last_from
 last_within a m [] ys l h = l
 last_within a m (n ∷ ns) ys l h = last_within n.position m ns ys h.0 h.1
@@ -109,17 +109,17 @@ until_late : (t : ℕ) (es : List MidiEvent) → AllByRecursion (λ e. t < e.tic
 until_late t [] h = refl
 until_late t (e ∷ es) h = ap (λ b. cond b (e ∷ until t es) (until t es)) (lt-leb e.tick t h.0) ∙ until_late t es h.1
 
-until_split : (t : ℕ) (xs ys : List MidiEvent) → AllByRecursion (λ e. e.tick ≤ t) xs → AllByRecursion (λ e. t < e.tick) ys → until t (xs ++ ys) ≡ xs
+pub until_split : (t : ℕ) (xs ys : List MidiEvent) → AllByRecursion (λ e. e.tick ≤ t) xs → AllByRecursion (λ e. t < e.tick) ys → until t (xs ++ ys) ≡ xs
 until_split t xs ys h g = filter-append (λ e. nat_le e.tick t) xs ys ∙ ap (λ zs. zs ++ until t ys) (until_early t xs h) ∙ ap (λ zs. xs ++ zs)
     (until_late t ys g) ∙ append-nil xs
 
-ticks_of : (P : ℕ → Type 0) (ns : List Numbered) → AllByRecursion (λ (n : Numbered). P n.event.tick) ns → AllByRecursion (λ e. P e.tick)
+pub ticks_of : (P : ℕ → Type 0) (ns : List Numbered) → AllByRecursion (λ (n : Numbered). P n.event.tick) ns → AllByRecursion (λ e. P e.tick)
     (unnumbered ns)
 ticks_of P [] h = tt
 ticks_of P (n ∷ ns) h = (h.0, ticks_of P ns h.1)
 
 -- a block stands at its event's tick
-block_ticks : (P : ℕ → Type 0) (e : MidiEvent) (ws : List MidiWhat) → P e.tick → AllByRecursion (λ x. P x.tick) (placed_at e ws)
+pub block_ticks : (P : ℕ → Type 0) (e : MidiEvent) (ws : List MidiWhat) → P e.tick → AllByRecursion (λ x. P x.tick) (placed_at e ws)
 block_ticks P e [] h = tt
 block_ticks P e (w ∷ ws) h = (h, block_ticks P e ws h)
 

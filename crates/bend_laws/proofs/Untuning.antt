@@ -48,7 +48,7 @@ use Rattle.bend_laws.proofs.Outputs.{out_is}
 use Rattle.bend_laws.proofs.Ticking.{music_all, AtPosition, at_position}
 use Rattle.bend_laws.proofs.Bridge.{same_events, well_reached, ReceiversStay}
 
-abbrev IsQuietOn : (ℕ → Bool) → Tuning → Type 0
+abbrev pub IsQuietOn : (ℕ → Bool) → Tuning → Type 0
 IsQuietOn used s = (c : ℕ) → used c ≡ true → selected_of s c ≡ None
 
 pub all_receive : (r : Receiver) (xs ys : List MidiEvent) → receive_all r (xs ++ ys) ≡ receive_all (receive_all r xs) ys
@@ -104,10 +104,10 @@ several_quiet laws law stay o table after out e tick good (h ∷ hs) d can r z r
 
 -- ---- messages that are no data entry
 
-abbrev IsMute : Msg → Type 0
+abbrev pub IsMute : Msg → Type 0
 IsMute msg = (m : Music) (s : Tuning) → tuning_heard m msg s ≡ s
 
-mute_role : (m : Music) (c v : ℕ) (r : Role) (s : Tuning) → (r ≢ EntryHigh) → chosen_by m c v r s ≡ s
+pub mute_role : (m : Music) (c v : ℕ) (r : Role) (s : Tuning) → (r ≢ EntryHigh) → chosen_by m c v r s ≡ s
 mute_role m c v EntryHigh s h = absurd (h refl)
 mute_role m c v Stored s h = refl
 mute_role m c v EntryLow s h = refl
@@ -120,11 +120,11 @@ mute_role m c v ResetControllers s h = refl
 mute_role m c v AllNotesOff s h = refl
 mute_role m c v Ignored s h = refl
 
-all_mute : (r : Receiver) (e : MidiEvent) (ms : List Msg) → AllByRecursion IsMute ms → (receive_all r (saying e ms)).tuning ≡ r.tuning
+pub all_mute : (r : Receiver) (e : MidiEvent) (ms : List Msg) → AllByRecursion IsMute ms → (receive_all r (saying e ms)).tuning ≡ r.tuning
 all_mute r e [] h = refl
 all_mute r e (m ∷ ms) h = all_mute (receive r (record e { what = Says m })) e ms h.1 ∙ h.0 r.music r.tuning
 
-released_mute : (port : ℕ) (o : Options) (table : Targets) (place : Pair → ℕ) (off : ℕ → ℕ → Msg) → ((d i : ℕ) → IsMute (off d i)) → (c : ℕ)
+pub released_mute : (port : ℕ) (o : Options) (table : Targets) (place : Pair → ℕ) (off : ℕ → ℕ → Msg) → ((d i : ℕ) → IsMute (off d i)) → (c : ℕ)
     (x : Option Note) → AllByRecursion IsMute (note_released port o table place off c x)
 released_mute port o table place off h c None = tt
 released_mute port o table place off h c (Some n) = pick (target_of o table n)
@@ -231,7 +231,7 @@ part_quiet laws law stay port o table used row k b t track (Bend c v) r h part =
     held_quiet laws law stay port o table used row k b (said_at t track (Bend c v)) r h c
 
 -- kept drums select on their own channel alone
-chosen_else : (c v d : ℕ) (x : Target) (s : Tuning) → d ≢ c → selected_of (chosen c v x s) d ≡ selected_of s d
+pub chosen_else : (c v d : ℕ) (x : Target) (s : Tuning) → d ≢ c → selected_of (chosen c v x s) d ≡ selected_of s d
 chosen_else c v d TuningProgram s h = get_or-set_other s.selected c d (Some v) None h
 chosen_else c v d Nowhere s h = refl
 chosen_else c v d ZoneSize s h = refl
@@ -250,7 +250,7 @@ role_else m c v d ResetControllers s h = refl
 role_else m c v d AllNotesOff s h = refl
 role_else m c v d Ignored s h = refl
 
-heard_else : (m : Music) (msg : Msg) (d : ℕ) (s : Tuning) → d ≢ channel_of msg → selected_of (tuning_heard m msg s) d ≡ selected_of s d
+pub heard_else : (m : Music) (msg : Msg) (d : ℕ) (s : Tuning) → d ≢ channel_of msg → selected_of (tuning_heard m msg s) d ≡ selected_of s d
 heard_else m (NoteOn c k v) d s h = refl
 heard_else m (NoteOff c k v) d s h = refl
 heard_else m (KeyPressure c k v) d s h = refl
@@ -259,12 +259,12 @@ heard_else m (Program c p) d s h = refl
 heard_else m (Pressure c v) d s h = refl
 heard_else m (Bend c v) d s h = refl
 
-none_selected : (n c : ℕ) → get_or (replicate n (let x : Option ℕ = None in x)) c None ≡ None
+pub none_selected : (n c : ℕ) → get_or (replicate n (let x : Option ℕ = None in x)) c None ≡ None
 none_selected zero c = refl
 none_selected (suc n) zero = refl
 none_selected (suc n) (suc c) = none_selected n c
 
-passed_quiet : (used : ℕ → Bool) (m : Music) (d : Doing) (s : Tuning) → ((msg : Msg) → d ≢ Plays msg) → IsQuietOn used s →
+pub passed_quiet : (used : ℕ → Bool) (m : Music) (d : Doing) (s : Tuning) → ((msg : Msg) → d ≢ Plays msg) → IsQuietOn used s →
     IsQuietOn used (tuning_after m d s)
 passed_quiet used m (Plays msg) s h q = absurd (h msg refl)
 passed_quiet used m Resets s h q = λ c u. none_selected 16 c

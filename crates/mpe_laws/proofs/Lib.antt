@@ -16,3 +16,4 @@ pub mod Allowed
 pub mod Played
 pub mod Sounding
 pub mod Ported
+pub mod Ticked

@@ -3,12 +3,13 @@ use Rattle.std.specs.Prelude.{◌≡◌, ◌≤◌, ℕ, List, length}
 use Rattle.mt_base.specs.Midi.{MidiEvent}
 use Rattle.midi_model.specs.Music.{quiet, play}
 use Rattle.retune_model.specs.Options.{Options}
-use Rattle.retune_model.specs.Ports.{of_port, music_at}
-use Rattle.retune_model.specs.Faults.{Targets}
+use Rattle.retune_model.specs.Ports.{of_port, events_on, music_at}
+use Rattle.retune_model.specs.PlaysTheSame.{output_key, HasSameNotes}
+use Rattle.retune_model.specs.Faults.{Targets, is_part}
 use Rattle.retune_model.specs.Pairs.{Pair}
 use Rattle.retune_model.specs.PortOutput.{through}
 use Rattle.channel_model.specs.BendOutput.{runs_on}
-use Rattle.channel_model.specs.MpeOutput.{Zone, unzoned, zoned_block, next_zoned}
+use Rattle.channel_model.specs.MpeOutput.{Zone, unzoned, zoned_block, next_zoned, mpe_output}
 use Rattle.bend_laws.specs.Positions.{up_to_position}
 use Rattle.mpe_laws.specs.Positions.{zoned_at, FollowsAt}
 use Rattle.mpe_laws.specs.Sources.{IsMpe}
@@ -32,3 +33,8 @@ abbrev pub PortsAreTheirBlocks : Type 0
 PortsAreTheirBlocks = OfMpe (λ o table es zones channel. (z k : ℕ) → (let runs = runs_on o table es channel z in
     (zoned_at o table (zones z) runs (of_port z es) k).out ≡ play quiet (through (zoned_block o table (zones z) runs)
     (next_zoned o table (zones z) runs) unzoned (up_to_position k (of_port z es)))))
+
+-- at every tick each port plays the notes that the source plays
+abbrev pub PortsHaveTheSameNotes : Type 0
+PortsHaveTheSameNotes = OfMpe (λ o table es zones channel. (z : ℕ) →
+    HasSameNotes (output_key o table) (is_part o) (events_on z es) (events_on z (mpe_output o table zones channel es)))

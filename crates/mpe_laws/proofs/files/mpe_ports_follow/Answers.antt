@@ -1,6 +1,9 @@
-use Rattle.retune_model.specs.Ports.{of_port}
+use Rattle.retune_model.specs.Ports.{of_port, events_on, all_zero}
+use Rattle.retune_model.specs.PlaysTheSame.{output_key, HasSameNotes}
+use Rattle.retune_model.specs.Faults.{is_part}
 use Rattle.channel_model.specs.BendOutput.{runs_on}
-use Rattle.std.proofs.Common.{◌∙◌, length}
+use Rattle.std.proofs.Common.{◌∙◌, sym, subst, length}
+use Rattle.bend_laws.proofs.Placing.{port_within, port_order}
 use Rattle.bend_laws.proofs.Outputs.{source_played}
 use Rattle.mpe_laws.proofs.Standing.{Laws}
 use Rattle.mpe_laws.proofs.Allowed.{allowed_zones, Asked}
@@ -8,6 +11,7 @@ use Rattle.mpe_laws.proofs.Everywhere.{follows_at, source_is}
 use Rattle.mpe_laws.proofs.Played.{out_is}
 use Rattle.mpe_laws.proofs.Ported.{PortFacts, planned_port}
 use Rattle.mpe_laws.specs.FileLaws.{PortsFollow}
+use Rattle.mpe_laws.proofs.Ticked.{same_notes}
 use Rattle.mpe_laws.proofs.files.mpe_ports_follow.Goals as goal
 
 pub returns : goal.returns
@@ -39,4 +43,12 @@ returns c =
           ∙ source_played (of_port z es) (facts.timed z es b.sound.in_order).ascend k;
       out = λ o table es zones channel b z. out_is o table (zones z) (runs_on o table es channel z) (of_port z es)
           (facts.timed z es b.sound.in_order).ascend;
+      notes = λ o table es zones channel b z.
+          subst (HasSameNotes (output_key o table) (is_part o) (events_on z es)) (sym (c.outputs_apart.ensures.mpe o table zones channel es z))
+          (same_notes o table (zones z) (runs_on o table es channel z) (of_port z es) (length es) b.route
+          (record {
+            rising = (facts.timed z es b.sound.in_order).ascend;
+            within = port_within z es;
+            in_order = port_order 0 z all_zero 0 es b.sound.in_order;
+          }) (follow o table es zones channel b z));
     }
