@@ -76,7 +76,7 @@ heard_within laws p terms ratios b range t x n a few positive e same =
 no_master : (c : ℕ) → master no_zones c ≡ None
 no_master c = grind (arith, nat_tests)
 
-abbrev pitch_by : Receiver → Note → Option ℕ → Option ℕ → ℤ
+abbrev pub pitch_by : Receiver → Note → Option ℕ → Option ℕ → ℤ
 pitch_by r n m p =
     let s = channel_at r.music (unwrap_or m n.channel) in
     ((by_program r.tuning p n.key +ℤ fine s) +ℤ coarse s) +ℤ bends r n.channel m

@@ -37,7 +37,7 @@ NoNote _ = Unit {0}
 abbrev pub NoNotes : List Msg → Type 0
 NoNotes ms = AllByRecursion NoNote ms
 
-both_none : (xs ys : List Msg) → NoNotes xs → NoNotes ys → NoNotes (xs ++ ys)
+pub both_none : (xs ys : List Msg) → NoNotes xs → NoNotes ys → NoNotes (xs ++ ys)
 both_none [] ys h g = g
 both_none (x ∷ xs) ys h g = (h.0, both_none xs ys h.1 g)
 
@@ -75,7 +75,7 @@ controller_none o table after out hs n v RpnLow = all_none o table after out hs
 controller_none o table after out hs n v RpnHigh = all_none o table after out hs
 controller_none o table after out hs n v ResetControllers = all_none o table after out hs
 
-released_none : (port : ℕ) (o : Options) (table : Targets) (place : Pair → ℕ) (off : ℕ → ℕ → Msg) → ((d i : ℕ) → NoNote (off d i)) → (c : ℕ)
+pub released_none : (port : ℕ) (o : Options) (table : Targets) (place : Pair → ℕ) (off : ℕ → ℕ → Msg) → ((d i : ℕ) → NoNote (off d i)) → (c : ℕ)
     (x : Option Note) → NoNotes (note_released port o table place off c x)
 released_none port o table place off h c None = tt
 released_none port o table place off h c (Some n) = pick (target_of o table n)

@@ -134,7 +134,7 @@ soft_keys o table p (n ∷ ns) h = cond_both (has_pair p n (target_of o table n)
 
 -- ---- a bend is one
 
-bend_fits : (z : ℤ) → bend_value z ≤ 16383
+pub bend_fits : (z : ℤ) → bend_value z ≤ 16383
 bend_fits (pos n) = pick (nat_le n 16383) refl
   where
     pick : (b : Bool) → nat_le n 16383 ≡ b → cond b n 16383 ≤ 16383

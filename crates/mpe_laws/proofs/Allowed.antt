@@ -1,13 +1,14 @@
 -- Allowed zones are as asked: their setup sets them up, and the places of their rows are their members.
 use Rattle.std.proofs.Common.{◌≡◌, ◌≢◌, ◌<◌, ◌≤◌, ◌+◌, ◌-◌, ◌&&◌, arith, ℕ, zero, suc, Bool, true, false, cond, List, [], ◌∷◌, Option, Some, None, refl, ap, sym, ◌∙◌, subst, nat_eq, nat_le, nat_lt, get_or, inl, inr}
-use Rattle.std.proofs.lemmas.Bool.{cases_Bool, eqb-true, and_from, and_right, le-leb, lt-leb}
+use Rattle.std.proofs.lemmas.Bool.{cases_Bool, eqb-true, eq-eqb, ne_eqb, and_from, and_right, le-leb, lt-leb}
+use Rattle.std.specs.List.{AllByRecursion}
 use Rattle.midi_model.specs.Zones.{Zones, no_zones, master, governor}
 use Rattle.retune_model.specs.Options.{ByMpe, Options}
 use Rattle.retune_model.specs.Faults.{is_part}
-use Rattle.channel_model.specs.MpeOutput.{Zone, zone_with, master_of, member_at, members_from, zone_of, lower_allowed}
+use Rattle.channel_model.specs.MpeOutput.{Zone, zone_with, master_of, member_at, members_from, zone_of, lower_allowed, upper_allowed}
 use Rattle.bend_laws.proofs.Equal.{own_governor}
 use Rattle.mpe_laws.specs.Zoned.{planned, AreZones, SetsUp}
-use Rattle.mpe_laws.specs.Sources.{AreAllowed}
+use Rattle.mpe_laws.specs.Sources.{IsZone, AreAllowed}
 use Rattle.mpe_laws.proofs.Standing.{Laws}
 use Rattle.mpe_laws.proofs.Single.{one_sets_up, one_are_zones}
 use Rattle.mpe_laws.proofs.Double.{two_sets_up, two_are_zones}
@@ -22,6 +23,8 @@ pub record Asked (o : Options) (zones : List Zone) : Type 0 where
   pub row : AreZones o zones
   pub sets : SetsUp o zones
   pub members : (c : ℕ) (w : Zone) → zone_of c zones ≡ Some w → AreMembers zones w
+  pub few : AllByRecursion (λ z. z.members ≤ 15) zones
+  pub each : AllByRecursion (λ z. zone_of z.part zones ≡ Some z) zones
 
 -- a zone is found by its part
 pub its_part : (c : ℕ) (zones : List Zone) (w : Zone) → zone_of c zones ≡ Some w → w.part ≡ c
@@ -43,6 +46,13 @@ each_of P c z zs here later w h = pick (nat_eq z.part c) h
 
 none_of : (P : Zone → Type 0) (c : ℕ) (w : Zone) → zone_of c [] ≡ Some w → P w
 none_of P c w h = absurd cc
+
+-- each is found by its part
+first_found : (z : Zone) (zs : List Zone) → zone_of z.part (z ∷ zs) ≡ Some z
+first_found z zs = ap (λ b. cond b (Some z) (zone_of z.part zs)) (eq-eqb z.part z.part refl)
+
+second_found : (c d : ℕ) (z w : Zone) → c ≢ d → z.part ≡ c → zone_of d (w ∷ []) ≡ Some w → zone_of d (z ∷ w ∷ []) ≡ Some w
+second_found c d z w differ is found = ap (λ b. cond b (Some z) (zone_of d (w ∷ []))) (ne_eqb z.part d (λ e. differ (sym is ∙ e))) ∙ found
 
 -- ---- masters
 
@@ -90,6 +100,8 @@ none_asked o route = record {
     notes = refl;
   };
   members = λ c w h. absurd cc;
+  few = tt;
+  each = tt;
 }
   where
     own_self : (d : ℕ) → governor no_zones d ≡ d
@@ -112,6 +124,8 @@ one_asked laws o route c a low part few drums = record {
   sets = one_sets_up laws o c a few;
   members = λ d w h. each_of (AreMembers (zone_with false (c, suc a) ∷ [])) d (zone_with false (c, suc a)) [] (one_members c a few)
       (none_of (AreMembers (zone_with false (c, suc a) ∷ [])) d) w h;
+  few = (few, tt);
+  each = (first_found (zone_with false (c, suc a)) [], tt);
 }
 
 -- ---- two
@@ -146,6 +160,8 @@ two_asked laws o route c d a b low_c low_d differ part_c part_d few drums =
       sets = two_sets_up laws o c d a b few;
       members = λ q w h. each_of P q l (u ∷ []) (lower_ones c d a b few)
           (each_of P q u [] (upper_ones c d a b few) (none_of P q)) w h;
+      few = (omega (arith, few), (omega (arith, few), tt));
+      each = (first_found l (u ∷ []), (second_found c d l u differ refl (first_found u []), tt));
     }
 
 -- ---- allowed zones
@@ -176,7 +192,7 @@ pair_form : (b : Bool) (l u : Zone) → lower_allowed b (l ∷ u ∷ []) ≡ con
 pair_form true l u = refl
 pair_form false l u = refl
 
-pub allowed_zones : Laws → (o : Options) → o.route ≡ ByMpe → (zones : List Zone) → AreAllowed o zones → Asked o zones
+pub allowed_zones : Laws → (o : Options) → o.route ≡ ByMpe → (zones : List Zone) → AreAllowed o o.keep_drums zones → Asked o zones
 allowed_zones laws o route [] h = none_asked o route
 allowed_zones laws o route (l ∷ []) h =
     let n : (a : ℕ) × (suc a ≡ l.members) = one_less l.members h.some in
@@ -204,6 +220,35 @@ allowed_zones laws o route (l ∷ u ∷ []) h =
     subst (λ w. Asked o (w ∷ u ∷ [])) form (subst (λ w. Asked o (zone_with false (l.part, suc n.0) ∷ w ∷ [])) form_up
     (two_asked laws o route l.part u.part n.0 m.0 h.0.channel h.1.0.channel h.1.1 h.0.retuned h.1.0.retuned together (λ k. (eight k, five k))))
 allowed_zones laws o route (l ∷ u ∷ v ∷ zs) h = absurd h
+
+-- ---- the parts of zones
+
+-- they stay allowed where no part is lost
+part_kept : (o q : Options) → ((c : ℕ) → is_part o c ≡ true → is_part q c ≡ true) → (upper : Bool) (most : ℕ) (w : Zone) → IsZone o upper most w →
+    IsZone q upper most w
+part_kept o q f upper most w h =
+    record { channel = h.channel; retuned = f w.part h.retuned; side = h.side; some = h.some; few = h.few }
+
+pub allowed_as : (o q : Options) (drums : Bool) → ((c : ℕ) → is_part o c ≡ true → is_part q c ≡ true) → (zones : List Zone) →
+    AreAllowed o drums zones → AreAllowed q drums zones
+allowed_as o q drums f [] h = tt
+allowed_as o q drums f (l ∷ []) h = part_kept o q f false (lower_allowed drums (l ∷ [])) l h
+allowed_as o q drums f (l ∷ u ∷ []) h = (
+  part_kept o q f false (lower_allowed drums (l ∷ u ∷ [])) l h.0,
+  (part_kept o q f true (upper_allowed drums) u h.1.0, h.1.1),
+)
+allowed_as o q drums f (l ∷ u ∷ v ∷ zs) h = absurd h
+
+-- each has a part
+pub allowed_parts : (o : Options) (drums : Bool) (zones : List Zone) → AreAllowed o drums zones → (c : ℕ) (w : Zone) → zone_of c zones ≡ Some w →
+    is_part o w.part ≡ true
+allowed_parts o drums [] h c w of = none_of (λ (x : Zone). is_part o x.part ≡ true) c w of
+allowed_parts o drums (l ∷ []) h c w of =
+    let P : Zone → Type 0 = λ x. is_part o x.part ≡ true in each_of P c l [] h.retuned (none_of P c) w of
+allowed_parts o drums (l ∷ u ∷ []) h c w of =
+    let P : Zone → Type 0 = λ x. is_part o x.part ≡ true in
+    each_of P c l (u ∷ []) h.0.retuned (each_of P c u [] h.1.0.retuned (none_of P c)) w of
+allowed_parts o drums (l ∷ u ∷ v ∷ zs) h c w of = absurd h
 
 -- ---- the rows
 

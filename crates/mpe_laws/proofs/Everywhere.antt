@@ -33,7 +33,7 @@ use Rattle.mpe_laws.proofs.Passing.{setup_of, set_up_follows}
 use Rattle.mpe_laws.proofs.Happenings.{event_kept}
 
 -- what is given of an event of the port
-given_at : (o : Options) (table : Targets) (zones : List Zone) (plan : PortRuns) (ns : List Numbered) (last : ℕ) →
+pub given_at : (o : Options) (table : Targets) (zones : List Zone) (plan : PortRuns) (ns : List Numbered) (last : ℕ) →
     IsPlanned o table zones plan ns last → (k : ℕ) → k < last → (m : Music) → m ≡ source_at ns k → (e : MidiEvent) →
     port_event ns (suc k) ≡ Some e → IsGiven plan.number o table zones (moment plan k) m e
 given_at o table zones plan ns last g k low m is e h =
@@ -68,7 +68,7 @@ first_block port o table zones k m x t track msg = play_append x (placed_at (sai
 quiet_settled : IsSettled quiet
 quiet_settled = record { notes = λ t. refl; channels = refl }
 
-set_up : Laws → (port : ℕ) (o : Options) (table : Targets) (zones : List Zone) → SetsUp o zones → (place : Pair → ℕ) (there : List Pair)
+pub set_up : Laws → (port : ℕ) (o : Options) (table : Targets) (zones : List Zone) → SetsUp o zones → (place : Pair → ℕ) (there : List Pair)
     (e : MidiEvent) → ((p : Pair) → Has there p → ⊥) → Follows port o table zones place there quiet (play quiet (placed_at e (setup_of o zones)))
 set_up laws port o table zones sets place there e none = set_up_follows laws port o table zones place there quiet (play quiet (placed_at e
     (setup_of o zones))) [] (sets e [] tt) (settled_play laws.settle quiet (placed_at e (setup_of o zones)) quiet_settled) tt tt tt
@@ -81,13 +81,13 @@ quiet_stays t Resets h = refl
 quiet_stays t (Tunes r) h = refl
 quiet_stays t Nothing h = refl
 
-no_setup : (setup : List MidiWhat) (d : Doing) → ((msg : Msg) → d ≡ Plays msg → ⊥) → setup_before setup false d ≡ []
+pub no_setup : (setup : List MidiWhat) (d : Doing) → ((msg : Msg) → d ≡ Plays msg → ⊥) → setup_before setup false d ≡ []
 no_setup setup (Plays msg) h = absurd (h msg refl)
 no_setup setup Resets h = refl
 no_setup setup (Tunes r) h = refl
 no_setup setup Nothing h = refl
 
-none_behind : (setup : List MidiWhat) (d : Doing) → setup_behind setup false d ≡ []
+pub none_behind : (setup : List MidiWhat) (d : Doing) → setup_behind setup false d ≡ []
 none_behind setup (Plays msg) = refl
 none_behind setup Resets = refl
 none_behind setup (Tunes r) = refl
@@ -99,7 +99,7 @@ stays_unbegun b Resets h = refl
 stays_unbegun b (Tunes r) h = refl
 stays_unbegun b Nothing h = refl
 
-abbrev what_at : ℕ → ℕ → MidiWhat → MidiEvent
+abbrev pub what_at : ℕ → ℕ → MidiWhat → MidiEvent
 what_at t track w = record { tick = t; track = track; what = w }
 
 quiet_block : (port : ℕ) (o : Options) (table : Targets) (zones : List Zone) (k : Moment) (m : Music) (t track : ℕ) (w : MidiWhat) → IsPassed w →

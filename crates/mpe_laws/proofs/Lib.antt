@@ -17,3 +17,14 @@ pub mod Played
 pub mod Sounding
 pub mod Ported
 pub mod Ticked
+pub mod Bending
+pub mod Opened
+pub mod Setups
+pub mod Untuned
+pub mod Heard
+pub mod Strikes
+pub mod Begun
+pub mod Shaped
+pub mod Filed
+pub mod Portwise
+pub mod Whole

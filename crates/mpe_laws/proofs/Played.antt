@@ -25,7 +25,7 @@ over_append o table zones runs s [] ys = refl
 over_append o table zones runs s (n ∷ ns) ys = over_append o table zones runs (next_zoned o table zones runs s n) ns ys
 
 -- the event at a position
-at_event : (ns : List Numbered) (k : ℕ) → (P : List Numbered → Option MidiEvent → Type 0) → P [] None →
+pub at_event : (ns : List Numbered) (k : ℕ) → (P : List Numbered → Option MidiEvent → Type 0) → P [] None →
     ((n : Numbered) → n.position ≡ k → P (n ∷ []) (Some n.event)) → P (numbered_at ns k) (port_event ns k)
 at_event [] k P none some = none
 at_event (n ∷ ns) k P none some = elim (cases_eq n.position k) [
@@ -40,7 +40,7 @@ one_over o table zones runs ns k s = at_event ns (suc k)
     (λ xs x. zoned_over o table zones runs s xs ≡ zoned_next o table zones runs k s x) refl
     (λ n e. ap (λ j. next_zoned o table zones runs s (let m : Numbered = record { position = j; event = n.event } in m)) e)
 
-over_is : (o : Options) (table : Targets) (zones : List Zone) (runs : PortRuns) (ns : List Numbered) → Ascend 0 ns → (k : ℕ) →
+pub over_is : (o : Options) (table : Targets) (zones : List Zone) (runs : PortRuns) (ns : List Numbered) → Ascend 0 ns → (k : ℕ) →
     zoned_over o table zones runs unzoned (up_to_position k ns) ≡ zoned_at o table zones runs ns k
 over_is o table zones runs ns r zero = ap (zoned_over o table zones runs unzoned) (none_yet 0 ns r 0 (omega arith))
 over_is o table zones runs ns r (suc k) =

@@ -4,8 +4,8 @@ use Rattle.std.specs.Set.{is_member}
 use Rattle.std.proofs.lemmas.Bool.{cases_Bool, both_ways, or_cases, or_left, or_right, eq-eqb, eqb-true}
 use Rattle.mt_base.specs.Midi.{MidiEvent}
 use Rattle.midi_model.specs.Music.{Music}
-use Rattle.retune_model.specs.Options.{Options}
-use Rattle.retune_model.specs.Ports.{Numbered, PortEvents, of_port, port_at, music_at, event_at, resets}
+use Rattle.retune_model.specs.Options.{Options, keeps_drums}
+use Rattle.retune_model.specs.Ports.{Numbered, PortEvents, of_port, port_at, events_on, music_at, event_at, resets}
 use Rattle.retune_model.specs.Faults.{Targets, is_part}
 use Rattle.retune_model.specs.SourceFaults.{kind_in, kind_behind}
 use Rattle.retune_model.specs.Pairs.{Pair, is_same_pair}
@@ -32,7 +32,7 @@ use Rattle.midi_model.specs.Zones.{master}
 use Rattle.mpe_laws.specs.Zoned.{planned, IsMember}
 use Rattle.mpe_laws.specs.Sources.{HasZonePlan, IsZonedPort, IsMpe}
 use Rattle.mpe_laws.proofs.Planning.{IsPlanned}
-use Rattle.mpe_laws.proofs.Allowed.{AreMembers, Asked, its_part, row_at}
+use Rattle.mpe_laws.proofs.Allowed.{AreMembers, Asked, its_part, allowed_parts, row_at}
 
 -- what is cited of pairs, faults and channels
 pub record PortFacts : Type 0 where
@@ -74,13 +74,13 @@ record InZone (o : Options) (table : Targets) (es : List MidiEvent) (z : ℕ) (z
   lane : channel k p ≡ member_at w (have.row (since is_same_pair (pairs_on o (only w.part) table es z) p k))
 
 in_zone : PortFacts → (o : Options) (table : Targets) (es : List MidiEvent) (zones : ℕ → List Zone) (channel : ℕ → ℕ → Pair → ℕ) →
-    IsMpe o table es zones channel → (z : ℕ) → Asked o (zones z) → (w : Zone) (have : HasZonePlan o table es z w (channel z)) (k : ℕ) (p : Pair) →
+    IsMpe o table es zones channel → (z : ℕ) (q : Options) → Asked q (zones z) → (w : Zone) (have : HasZonePlan o table es z w (channel z)) (k : ℕ) (p : Pair) →
     zone_of p.part.channel (zones z) ≡ Some w → k ≤ length es → Has (pairs_on o (is_part o) table es z k) p →
     InZone o table es z (zones z) (channel z) w have k p
-in_zone f o table es zones channel b z asked w have k p of low h =
+in_zone f o table es zones channel b z q asked w have k p of low h =
     let part : w.part ≡ p.part.channel = its_part p.part.channel (zones z) w of in
     let at : ℕ → List Pair = pairs_on o (only w.part) table es z in
-    let retuned : is_part o w.part ≡ true = ap (is_part o) part ∙ asked.row.retuned_part p.part.channel w of in
+    let retuned : is_part o w.part ≡ true = allowed_parts o (keeps_drums o (events_on z es)) (zones z) (b.ports z).allowed p.part.channel w of in
     let some : (d : ℕ) → only w.part d ≡ true → is_part o d ≡ true = λ d e. ap (is_part o) (eqb-true d w.part e) ∙ retuned in
     let there : Has (at k) p = subst (λ ps. Has ps p) (f.parts o (is_part o) (only w.part) table (port_at es z)
     (f.timed z es b.sound.in_order) some k)
@@ -104,9 +104,9 @@ same_value f x y a b h g e = cc
 -- ---- a port of a source
 
 pub planned_port : PortFacts → (o : Options) (table : Targets) (es : List MidiEvent) (zones : ℕ → List Zone) (channel : ℕ → ℕ → Pair → ℕ) →
-    IsMpe o table es zones channel → (z : ℕ) → Asked o (zones z) →
+    IsMpe o table es zones channel → (z : ℕ) (options : Options) → Asked options (zones z) →
     IsPlanned o table (zones z) (runs_on o table es channel z) (of_port z es) (length es)
-planned_port f o table es zones channel b z asked =
+planned_port f o table es zones channel b z options asked =
     let part : ℕ → Bool = is_part o in
     let port : PortEvents = port_at es z in
     let ns : List Numbered = of_port z es in
@@ -143,7 +143,7 @@ planned_port f o table es zones channel b z asked =
           let w : Zone = found.0 in
           let have : HasZonePlan o table es z w (channel z) = it.plans p.part.channel w found.1 in
           let i : InZone o table es z (zones z) (channel z) w have k p =
-          in_zone f o table es zones channel b z asked w have k p found.1 (omega (arith, low)) h in
+          in_zone f o table es zones channel b z options asked w have k p found.1 (omega (arith, low)) h in
           have.plan.given (suc k) p i.part
           ∙ ap (λ j. get_or (zone_row w) (have.row j) 0) (since_kept (pairs_on o (only w.part) table es z) p k i.there)
           ∙ sym (have.plan.given k p i.part));
@@ -154,8 +154,8 @@ planned_port f o table es zones channel b z asked =
           let v : Zone = other.0 in
           let have : HasZonePlan o table es z w (channel z) = it.plans p.part.channel w found.1 in
           let its : HasZonePlan o table es z v (channel z) = it.plans q.part.channel v other.1 in
-          let i : InZone o table es z (zones z) (channel z) w have k p = in_zone f o table es zones channel b z asked w have k p found.1 low h in
-          let j : InZone o table es z (zones z) (channel z) v its k q = in_zone f o table es zones channel b z asked v its k q other.1 low g in
+          let i : InZone o table es z (zones z) (channel z) w have k p = in_zone f o table es zones channel b z options asked w have k p found.1 low h in
+          let j : InZone o table es z (zones z) (channel z) v its k q = in_zone f o table es zones channel b z options asked v its k q other.1 low g in
           let zp : ℕ → List Pair = pairs_on o (only w.part) table es z in
           let zq : ℕ → List Pair = pairs_on o (only v.part) table es z in
           let a : ℕ = have.row (since is_same_pair zp p k) in
@@ -165,7 +165,7 @@ planned_port f o table es zones channel b z asked =
           (i.members.is a (i.places.below p i.there)) (j.members.is c (j.places.below q j.there)) (sym i.lane ∙ e ∙ j.lane) in
           let same : p.part.channel ≡ q.part.channel = asked.row.own p.part.channel q.part.channel w v found.1 other.1 masters in
           let n : InZone o table es z (zones z) (channel z) w have k q =
-          in_zone f o table es zones channel b z asked w have k q (ap (λ r. zone_of r (zones z)) (sym same) ∙ found.1) low g in
+          in_zone f o table es zones channel b z options asked w have k q (ap (λ r. zone_of r (zones z)) (sym same) ∙ found.1) low g in
           let d : ℕ = have.row (since is_same_pair zp q k) in
           i.places.apart p q i.there n.there
           (i.members.apart a d (i.places.below p i.there) (n.places.below q n.there) (sym i.lane ∙ e ∙ n.lane)));
@@ -173,7 +173,7 @@ planned_port f o table es zones channel b z asked =
           let found = it.zoned k p h in
           let w : Zone = found.0 in
           let have : HasZonePlan o table es z w (channel z) = it.plans p.part.channel w found.1 in
-          let i : InZone o table es z (zones z) (channel z) w have k p = in_zone f o table es zones channel b z asked w have k p found.1 low h in
+          let i : InZone o table es z (zones z) (channel z) w have k p = in_zone f o table es zones channel b z options asked w have k p found.1 low h in
           let a : ℕ = have.row (since is_same_pair (pairs_on o (only w.part) table es z) p k) in
           subst (IsMember (zones z) p) (sym i.lane) (record {
             zone = w;

@@ -42,7 +42,7 @@ use Rattle.mpe_laws.proofs.Forwarding.{Settles, notes_told, masters_told, settle
 
 -- ---- the target, and the notes of the part that sound
 
-aimed : (o : Options) (table : Targets) (t c j v : ℕ) → o.route ≡ ByMpe → is_part o c ≡ true → is_unmapped o table t (NoteOn c j (suc v)) ≡ false →
+pub aimed : (o : Options) (table : Targets) (t c j v : ℕ) → o.route ≡ ByMpe → is_part o c ≡ true → is_unmapped o table t (NoteOn c j (suc v)) ≡ false →
     is_out_of_device o table t (NoteOn c j (suc v)) ≡ false → (x : BendTarget) × (bend_target_if o.range (table j t) ≡ Some x)
 aimed o table t c j v route part mapped device = pick (table j t) refl
   where
@@ -155,7 +155,7 @@ bent_ready laws port o table zones row k p m x t track follows notes w =
       settled = laws.settle x (said_at t track (Bend d v)) follows.out_settled;
     }
 
-abbrev bend_first : Moment → Music → Pair → Bool → List Msg
+abbrev pub bend_first : Moment → Music → Pair → Bool → List Msg
 bend_first k x p r = let v : ℕ = bend_value (pos 8192 +ℤ p.steps) in cond r [] (where_differs (channel_at x (k.new p)).bend v (Bend (k.new p) v))
 
 ready : Laws → (port : ℕ) (o : Options) (table : Targets) (zones : List Zone) → AreZones o zones → (k : Moment) (p : Pair) (m x : Music)

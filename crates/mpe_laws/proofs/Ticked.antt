@@ -30,7 +30,7 @@ use Rattle.mpe_laws.proofs.Played.{zoned_over, out_is}
 abbrev pub zoned_output : Options → Targets → List Zone → PortRuns → Zoned → List Numbered → List MidiEvent
 zoned_output o table zones runs s ns = through (zoned_block o table zones runs) (next_zoned o table zones runs) s ns
 
-output_append : (o : Options) (table : Targets) (zones : List Zone) (runs : PortRuns) (s : Zoned) (xs ys : List Numbered) →
+pub output_append : (o : Options) (table : Targets) (zones : List Zone) (runs : PortRuns) (s : Zoned) (xs ys : List Numbered) →
     zoned_output o table zones runs s (xs ++ ys)
     ≡ zoned_output o table zones runs s xs ++ zoned_output o table zones runs (zoned_over o table zones runs s xs) ys
 output_append o table zones runs s [] ys = refl
@@ -75,6 +75,7 @@ pub record AtPosition (o : Options) (table : Targets) (zones : List Zone) (runs 
   pub position : ℕ
   pub within : position ≤ last
   pub source : (at_tick t (unnumbered ns)).music ≡ (zoned_at o table zones runs ns position).source
+  pub blocks : until t (zoned_output o table zones runs unzoned ns) ≡ zoned_output o table zones runs unzoned (up_to_position position ns)
   pub out : (at_tick t (zoned_output o table zones runs unzoned ns)).music ≡ (zoned_at o table zones runs ns position).out
 
 pub at_position : (o : Options) (table : Targets) (zones : List Zone) (runs : PortRuns) (ns : List Numbered) (last t : ℕ) → AreTimely ns last →
@@ -84,7 +85,12 @@ at_position o table zones runs ns last t h =
     let k : ℕ = last_from 0 s.early in
     let rising : Ascend 0 (s.early ++ s.late) = subst (Ascend 0) s.is h.rising in
     let early : up_to_position k ns ≡ s.early = ap (up_to_position k) s.is ∙ up_to_last 0 s.early s.late rising in
+    let blocks : until t (zoned_output o table zones runs unzoned ns) ≡ zoned_output o table zones runs unzoned (up_to_position k ns) =
+    ap (λ xs. until t (zoned_output o table zones runs unzoned xs)) s.is
+    ∙ until_output t o table zones runs s.early s.late s.early_ticks s.late_ticks
+    ∙ ap (zoned_output o table zones runs unzoned) (sym early) in
     record {
+      blocks = blocks;
       position = k;
       within = last_within 0 last s.early s.late (omega arith) (subst (AllByRecursion (λ (n : Numbered). n.position ≤ last)) s.is h.within);
       source = music_all start (until t (unnumbered ns))
@@ -94,10 +100,7 @@ at_position o table zones runs ns last t h =
           (ticks_of (λ x. t < x) s.late s.late_ticks))
           ∙ ap (λ xs. play quiet (unnumbered xs)) (sym early)
           ∙ sym (source_is o table zones runs ns k ∙ source_played ns h.rising k);
-      out = music_all start (until t (zoned_output o table zones runs unzoned ns))
-          ∙ ap (λ xs. play quiet (until t (zoned_output o table zones runs unzoned xs))) s.is
-          ∙ ap (play quiet) (until_output t o table zones runs s.early s.late s.early_ticks s.late_ticks)
-          ∙ ap (λ xs. play quiet (zoned_output o table zones runs unzoned xs)) (sym early)
+      out = music_all start (until t (zoned_output o table zones runs unzoned ns)) ∙ ap (play quiet) blocks
           ∙ sym (out_is o table zones runs ns h.rising k);
     }
 

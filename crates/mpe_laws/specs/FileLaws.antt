@@ -1,18 +1,23 @@
 -- What the MPE route writes for the events of a file, where each port has zones and plans.
 use Rattle.std.specs.Prelude.{◌≡◌, ◌≤◌, ℕ, List, length}
+use Rattle.std.specs.List.{AllByRecursion}
 use Rattle.mt_base.specs.Midi.{MidiEvent}
+use Rattle.midi_model.specs.Merged.{IsPlayable, merged}
+use Rattle.midi_model.specs.FileText.{MidiFile}
 use Rattle.midi_model.specs.Music.{quiet, play}
-use Rattle.retune_model.specs.Options.{Options}
+use Rattle.retune_model.specs.Table.{Scaling}
+use Rattle.retune_model.specs.Options.{Options, keeps_drums, is_retuned}
 use Rattle.retune_model.specs.Ports.{of_port, events_on, music_at}
-use Rattle.retune_model.specs.PlaysTheSame.{output_key, HasSameNotes}
-use Rattle.retune_model.specs.Faults.{Targets, is_part}
+use Rattle.retune_model.specs.PlaysTheSame.{plain_device, PlayTheSame, HasSameShape, PlaysTheSame}
+use Rattle.retune_model.specs.Faults.{Targets}
 use Rattle.retune_model.specs.Pairs.{Pair}
 use Rattle.retune_model.specs.PortOutput.{through}
 use Rattle.channel_model.specs.BendOutput.{runs_on}
 use Rattle.channel_model.specs.MpeOutput.{Zone, unzoned, zoned_block, next_zoned, mpe_output}
+use Rattle.bend_laws.specs.Bent.{IsTuned}
 use Rattle.bend_laws.specs.Positions.{up_to_position}
 use Rattle.mpe_laws.specs.Positions.{zoned_at, FollowsAt}
-use Rattle.mpe_laws.specs.Sources.{IsMpe}
+use Rattle.mpe_laws.specs.Sources.{on_port, IsMpe, IsOnZones}
 
 -- a sentence about a source with zones and plans for each of its ports
 abbrev pub OfMpe : (Options → Targets → List MidiEvent → (ℕ → List Zone) → (ℕ → ℕ → Pair → ℕ) → Type 0) → Type 0
@@ -22,7 +27,7 @@ OfMpe P = (o : Options) (table : Targets) (es : List MidiEvent) (zones : ℕ →
 -- at every position of the file each port's output follows its source
 abbrev pub PortsFollow : Type 0
 PortsFollow = OfMpe (λ o table es zones channel. (z k : ℕ) → k ≤ length es → (let runs = runs_on o table es channel z in
-    FollowsAt o table (zones z) runs k (zoned_at o table (zones z) runs (of_port z es) k)))
+    FollowsAt (on_port o es z) table (zones z) runs k (zoned_at o table (zones z) runs (of_port z es) k)))
 
 -- the musics there are those of the port's events up to the position, and of what is written for them
 abbrev pub PortsAreTheirEvents : Type 0
@@ -34,7 +39,23 @@ PortsAreTheirBlocks = OfMpe (λ o table es zones channel. (z k : ℕ) → (let r
     (zoned_at o table (zones z) runs (of_port z es) k).out ≡ play quiet (through (zoned_block o table (zones z) runs)
     (next_zoned o table (zones z) runs) unzoned (up_to_position k (of_port z es)))))
 
--- at every tick each port plays the notes that the source plays
-abbrev pub PortsHaveTheSameNotes : Type 0
-PortsHaveTheSameNotes = OfMpe (λ o table es zones channel. (z : ℕ) →
-    HasSameNotes (output_key o table) (is_part o) (events_on z es) (events_on z (mpe_output o table zones channel es)))
+-- so the whole plays the same
+abbrev pub ZonedPlaysTheSame : Type 0
+ZonedPlaysTheSame = OfMpe (λ o table es zones channel. (scaling : Scaling) → IsTuned scaling o table →
+    PlayTheSame scaling o table (plain_device o) es (mpe_output o table zones channel es))
+
+-- and so does a file of it
+abbrev pub ZonedFilePlaysTheSame : Type 0
+ZonedFilePlaysTheSame = (o : Options) (table : Targets) (zones : ℕ → List Zone) (channel : ℕ → ℕ → Pair → ℕ) (source out : MidiFile) →
+    HasSameShape source out → merged out ≡ mpe_output o table zones channel (merged source) → IsMpe o table (merged source) zones channel →
+    (scaling : Scaling) → IsTuned scaling o table → PlaysTheSame scaling o table source out
+
+-- and can be written as a file with the source's tracks
+abbrev pub ZonedIsPlayable : Type 0
+ZonedIsPlayable = OfMpe (λ o table es zones channel. (tracks : ℕ) → IsPlayable tracks es →
+    IsPlayable tracks (mpe_output o table zones channel es))
+
+-- on each port it speaks to masters and members of its zones alone, kept drums aside
+abbrev pub ZonedIsOnZones : Type 0
+ZonedIsOnZones = OfMpe (λ o table es zones channel. (z : ℕ) →
+    AllByRecursion (IsOnZones (is_retuned (keeps_drums o (events_on z es))) (zones z)) (events_on z (mpe_output o table zones channel es)))

@@ -2,15 +2,22 @@
 use Rattle.std.specs.Prelude.{◌≡◌, ◌≢◌, ◌≤◌, ◌<◌, ℕ, Bool, true, false, List, [], ◌∷◌, Some}
 use Rattle.std.specs.List.{AllByRecursion}
 use Rattle.std.specs.Set.{is_member}
-use Rattle.mt_base.specs.Midi.{MidiEvent}
+use Rattle.mt_base.specs.declared.event.Msg.{Msg}
+use Rattle.mt_base.specs.Midi.{MidiEvent, Says, channel_of}
 use Rattle.mt_base.specs.Valid.{IsValidEvent}
-use Rattle.retune_model.specs.Options.{Options, ByMpe}
+use Rattle.retune_model.specs.Options.{Options, ByMpe, keeps_drums}
+use Rattle.retune_model.specs.Ports.{events_on}
 use Rattle.retune_model.specs.Faults.{Targets, is_part}
 use Rattle.retune_model.specs.Pairs.{Pair, is_same_pair}
 use Rattle.retune_model.specs.SourceFaults.{IsSound}
 use Rattle.retune_model.specs.PortNeed.{pairs_on}
 use Rattle.channel_model.specs.MpeOutput.{Zone, zone_of, lower_allowed, upper_allowed}
 use Rattle.channel_model.specs.Rows.{IsZonePlan}
+use Rattle.mpe_laws.specs.Zoned.{IsOfZone}
+
+-- Where drums are kept and a port has none, channel 10 is a channel as any other there.
+abbrev pub on_port : Options → List MidiEvent → ℕ → Options
+on_port o es z = record o { keep_drums = keeps_drums o (events_on z es) }
 
 -- a zone of a part, the upper one or the lower one, of at least one member and at most so many
 pub record IsZone (o : Options) (upper : Bool) (most : ℕ) (zone : Zone) : Type 0 where
@@ -21,12 +28,12 @@ pub record IsZone (o : Options) (upper : Bool) (most : ℕ) (zone : Zone) : Type
   pub few : zone.members ≤ most
 
 -- No zone; or the lower one; or the lower and the upper one, of two parts. Each with an allowed number of members, which leaves channel 10
--- out where drums are kept.
-abbrev pub AreAllowed : Options → List Zone → Type 0
-AreAllowed o [] = Unit {0}
-AreAllowed o (l ∷ []) = IsZone o false (lower_allowed o.keep_drums (l ∷ [])) l
-AreAllowed o (l ∷ u ∷ []) = IsZone o false (lower_allowed o.keep_drums (l ∷ u ∷ [])) l × (IsZone o true (upper_allowed o.keep_drums) u × (l.part ≢ u.part))
-AreAllowed o (l ∷ u ∷ _ ∷ _) = ⊥
+-- out where the port keeps drums.
+abbrev pub AreAllowed : Options → Bool → List Zone → Type 0
+AreAllowed o drums [] = Unit {0}
+AreAllowed o drums (l ∷ []) = IsZone o false (lower_allowed drums (l ∷ [])) l
+AreAllowed o drums (l ∷ u ∷ []) = IsZone o false (lower_allowed drums (l ∷ u ∷ [])) l × (IsZone o true (upper_allowed drums) u × (l.part ≢ u.part))
+AreAllowed o drums (l ∷ u ∷ _ ∷ _) = ⊥
 
 -- the plan of a zone, with its instant and its row
 pub record HasZonePlan (o : Options) (table : Targets) (es : List MidiEvent) (z : ℕ) (zone : Zone) (channel : ℕ → Pair → ℕ) : Type 0 where
@@ -36,7 +43,7 @@ pub record HasZonePlan (o : Options) (table : Targets) (es : List MidiEvent) (z 
 
 -- What a port has: allowed zones, among them one of each part that has a pair; and a plan of each zone.
 pub record IsZonedPort (o : Options) (table : Targets) (es : List MidiEvent) (z : ℕ) (zones : List Zone) (channel : ℕ → Pair → ℕ) : Type 0 where
-  pub allowed : AreAllowed o zones
+  pub allowed : AreAllowed o (keeps_drums o (events_on z es)) zones
   pub zoned : (k : ℕ) (p : Pair) → is_member is_same_pair (pairs_on o (is_part o) table es z k) p ≡ true →
       (zone : Zone) × (zone_of p.part.channel zones ≡ Some zone)
   pub plans : (c : ℕ) (zone : Zone) → zone_of c zones ≡ Some zone → HasZonePlan o table es z zone channel
@@ -44,6 +51,11 @@ pub record IsZonedPort (o : Options) (table : Targets) (es : List MidiEvent) (z 
 -- The events are valid and have no fault, and each port has zones and plans.
 pub record IsMpe (o : Options) (table : Targets) (es : List MidiEvent) (zones : ℕ → List Zone) (channel : ℕ → ℕ → Pair → ℕ) : Type 0 where
   pub route : o.route ≡ ByMpe
+  pub range : o.range ≤ 127
   pub valid : AllByRecursion IsValidEvent es
   pub sound : IsSound o table es
   pub ports : (z : ℕ) → IsZonedPort o table es z (zones z) (channel z)
+
+-- A message of a part is on the master of a part's zone or on one of its members; what is no such message, as a kept drum, is not looked at.
+abbrev pub IsOnZones : (ℕ → Bool) → List Zone → MidiEvent → Type 0
+IsOnZones part zones e = (msg : Msg) → e.what ≡ Says msg → part (channel_of msg) ≡ true → IsOfZone zones (channel_of msg)

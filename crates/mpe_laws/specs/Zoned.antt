@@ -1,5 +1,5 @@
 -- The zones that are planned for the parts, and the state of their members.
-use Rattle.std.specs.Prelude.{◌≡◌, ◌≢◌, ◌<◌, ℕ, List, map, [], ◌∷◌, true, false, Some}
+use Rattle.std.specs.Prelude.{◌≡◌, ◌≢◌, ◌<◌, ◌⊎◌, ℕ, List, map, [], ◌∷◌, true, false, Some}
 use Rattle.std.specs.List.{AllByRecursion}
 use Rattle.mt_base.specs.Midi.{Says, MidiEvent}
 use Rattle.midi_model.specs.Params.{rpn, put}
@@ -65,3 +65,9 @@ at_defaults ns = record { channels = quiet.channels; zones = no_zones; notes = n
 abbrev pub SetsUp : Options → List Zone → Type 0
 SetsUp o zones = (e : MidiEvent) (ns : List Note) → AllByRecursion (λ n. sounds n ≡ false) ns →
     IsSetUp o zones ns (play (at_defaults ns) (placed_at e (map Says (zones_setup o.range zones))))
+
+-- a channel is the master of a part's zone, or one of its members
+pub record IsOfZone (zones : List Zone) (c : ℕ) : Type 0 where
+  pub zone : Zone
+  pub of : zone_of zone.part zones ≡ Some zone
+  pub is : (c ≡ master_of zone) ⊎ (master (planned zones) c ≡ Some (master_of zone))

@@ -1,23 +1,30 @@
-//! What the MPE route writes for the events of a file.
+//! What the MPE route writes for a file.
 
-ghost use Rattle.mpe_laws.specs.FileLaws.{PortsFollow, PortsAreTheirEvents, PortsAreTheirBlocks, PortsHaveTheSameNotes};
+ghost use Rattle.mpe_laws.specs.FileLaws.{PortsFollow, PortsAreTheirEvents, PortsAreTheirBlocks, ZonedPlaysTheSame, ZonedFilePlaysTheSame, ZonedIsPlayable, ZonedIsOnZones};
 
 use channel_model::{best_is_free, outputs_apart};
-use midi_model::music_laws;
+use midi_model::{music_laws, parameter_laws};
+use mt_base::laws::{exact, sums, wider};
 use retune_model::{
     elsewhere, held_laws, part_alone, position_laws, rests_are_runs, sound_sources,
     zone_entries_set_zones,
 };
 
 /// For a source without a fault, with allowed zones and a plan of their members for each of its ports, for any tail: at every position of
-/// the file each port's output follows its source. Before the port's first message nothing was played. From then on their notes match one
-/// by one, each retuned one on a member of its part's zone while it sounds; each master is at its part's state; and the member of each
-/// pair that is there has the pair's bend. So at every tick each port plays the notes that the source plays.
-pub fn mpe_ports_follow()
+/// the file each port's output follows its source. Before the port's first message nothing was played. From then on the zones are those
+/// that are planned, also behind each reset; the notes match one by one, each retuned one on a member of its part's zone while it sounds;
+/// each master is at its part's state; and the member of each pair that is there has the pair's bend. So the whole plays the same: on
+/// every port and at every tick the same notes, each with its source's controllers, pressures and parameters, within half a step of a bend
+/// and a thousandth of a cent of its source pitch, and right from its beginning; all other events and kept drums are passed on. It can be
+/// written as a file with the source's tracks, and speaks to no channel of a port but masters and members, kept drums aside.
+pub fn mpe_plays_the_same()
     ensures ports { PortsFollow }
     ensures source { PortsAreTheirEvents }
     ensures out { PortsAreTheirBlocks }
-    ensures notes { PortsHaveTheSameNotes }
+    ensures same { ZonedPlaysTheSame }
+    ensures file { ZonedFilePlaysTheSame }
+    ensures playable { ZonedIsPlayable }
+    ensures on_zones { ZonedIsOnZones }
 {
     best_is_free();
     outputs_apart();
@@ -29,4 +36,8 @@ pub fn mpe_ports_follow()
     sound_sources();
     zone_entries_set_zones();
     music_laws();
+    parameter_laws();
+    sums();
+    exact();
+    wider();
 }
