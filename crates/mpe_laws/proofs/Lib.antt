@@ -28,3 +28,4 @@ pub mod Shaped
 pub mod Filed
 pub mod Portwise
 pub mod Whole
+pub mod Fitting

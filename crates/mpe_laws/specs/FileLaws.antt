@@ -17,7 +17,8 @@ use Rattle.channel_model.specs.MpeOutput.{Zone, unzoned, zoned_block, next_zoned
 use Rattle.bend_laws.specs.Bent.{IsTuned}
 use Rattle.bend_laws.specs.Positions.{up_to_position}
 use Rattle.mpe_laws.specs.Positions.{zoned_at, FollowsAt}
-use Rattle.mpe_laws.specs.Sources.{on_port, IsMpe, IsOnZones}
+use Rattle.channel_model.specs.Rows.{zones_on}
+use Rattle.mpe_laws.specs.Sources.{on_port, IsMpe, IsOnZones, zoned_channel, IsPlannedMpe}
 
 -- a sentence about a source with zones and plans for each of its ports
 abbrev pub OfMpe : (Options → Targets → List MidiEvent → (ℕ → List Zone) → (ℕ → ℕ → Pair → ℕ) → Type 0) → Type 0
@@ -59,3 +60,8 @@ ZonedIsPlayable = OfMpe (λ o table es zones channel. (tracks : ℕ) → IsPlaya
 abbrev pub ZonedIsOnZones : Type 0
 ZonedIsOnZones = OfMpe (λ o table es zones channel. (z : ℕ) →
     AllByRecursion (IsOnZones (is_retuned (keeps_drums o (events_on z es))) (zones z)) (events_on z (mpe_output o table zones channel es)))
+
+-- the plans of a source that fits are such zones and plans
+abbrev pub PlansServe : Type 0
+PlansServe = (o : Options) (table : Targets) (es : List MidiEvent) (channel : ℕ → Zone → ℕ → Pair → ℕ) → IsPlannedMpe o table es channel →
+    IsMpe o table es (zones_on o table es) (zoned_channel (zones_on o table es) channel)

@@ -1,5 +1,5 @@
 -- A source with zones and a plan of their members for each of its ports, as the MPE route is given one.
-use Rattle.std.specs.Prelude.{◌≡◌, ◌≢◌, ◌≤◌, ◌<◌, ℕ, Bool, true, false, List, [], ◌∷◌, Some}
+use Rattle.std.specs.Prelude.{◌≡◌, ◌≢◌, ◌≤◌, ◌<◌, ℕ, Bool, true, false, List, [], ◌∷◌, Option, Some, None}
 use Rattle.std.specs.List.{AllByRecursion}
 use Rattle.std.specs.Set.{is_member}
 use Rattle.mt_base.specs.declared.event.Msg.{Msg}
@@ -12,7 +12,9 @@ use Rattle.retune_model.specs.Pairs.{Pair, is_same_pair}
 use Rattle.retune_model.specs.SourceFaults.{IsSound}
 use Rattle.retune_model.specs.PortNeed.{pairs_on}
 use Rattle.channel_model.specs.MpeOutput.{Zone, zone_of, lower_allowed, upper_allowed}
-use Rattle.channel_model.specs.Rows.{IsZonePlan}
+use Rattle.retune_model.specs.Places.{nth}
+use Rattle.channel_model.specs.Rows.{IsZonePlan, zones_on}
+use Rattle.channel_model.specs.Refusals.{HasFewParts, ZonesFit}
 use Rattle.mpe_laws.specs.Zoned.{IsOfZone}
 
 -- Where drums are kept and a port has none, channel 10 is a channel as any other there.
@@ -59,3 +61,22 @@ pub record IsMpe (o : Options) (table : Targets) (es : List MidiEvent) (zones : 
 -- A message of a part is on the master of a part's zone or on one of its members; what is no such message, as a kept drum, is not looked at.
 abbrev pub IsOnZones : (ℕ → Bool) → List Zone → MidiEvent → Type 0
 IsOnZones part zones e = (msg : Msg) → e.what ≡ Says msg → part (channel_of msg) ≡ true → IsOfZone zones (channel_of msg)
+
+-- ---- as a plan gives them
+
+-- the channel that a run has in the zone of its part
+abbrev pub in_its_zone : (Zone → ℕ → Pair → ℕ) → ℕ → Pair → Option Zone → ℕ
+in_its_zone channel k p (Some zone) = channel zone k p
+in_its_zone channel k p None = 0
+
+abbrev pub zoned_channel : (ℕ → List Zone) → (ℕ → Zone → ℕ → Pair → ℕ) → ℕ → ℕ → Pair → ℕ
+zoned_channel zones channel z k p = in_its_zone (channel z) k p (zone_of p.part.channel (zones z))
+
+-- A source that fits on this route, with a plan of each zone of each port: of the zones that the parts with notes need.
+pub record IsPlannedMpe (o : Options) (table : Targets) (es : List MidiEvent) (channel : ℕ → Zone → ℕ → Pair → ℕ) : Type 0 where
+  pub route : o.route ≡ ByMpe
+  pub range : o.range ≤ 127
+  pub valid : AllByRecursion IsValidEvent es
+  pub sound : IsSound o table es
+  pub fits : (z : ℕ) → HasFewParts o es z × ZonesFit o table es z
+  pub plans : (z i : ℕ) (zone : Zone) → nth i (zones_on o table es z) ≡ Some zone → HasZonePlan o table es z zone (channel z zone)

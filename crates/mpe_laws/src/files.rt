@@ -1,6 +1,6 @@
 //! What the MPE route writes for a file.
 
-ghost use Rattle.mpe_laws.specs.FileLaws.{PortsFollow, PortsAreTheirEvents, PortsAreTheirBlocks, ZonedPlaysTheSame, ZonedFilePlaysTheSame, ZonedIsPlayable, ZonedIsOnZones};
+ghost use Rattle.mpe_laws.specs.FileLaws.{PortsFollow, PortsAreTheirEvents, PortsAreTheirBlocks, ZonedPlaysTheSame, ZonedFilePlaysTheSame, ZonedIsPlayable, ZonedIsOnZones, PlansServe};
 
 use channel_model::{best_is_free, outputs_apart};
 use midi_model::{music_laws, parameter_laws};
@@ -40,4 +40,15 @@ pub fn mpe_plays_the_same()
     sums();
     exact();
     wider();
+}
+
+/// A source without a fault that isn't refused on the MPE route, with a plan of each zone that its parts with notes need, is such a
+/// source: its zones are allowed and set apart, and each part that has a pair has one.
+pub fn plans_serve()
+    ensures serve { PlansServe }
+{
+    held_laws();
+    position_laws();
+    rests_are_runs();
+    sound_sources();
 }

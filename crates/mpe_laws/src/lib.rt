@@ -4,5 +4,5 @@
 mod files;
 mod follows;
 
-pub use files::mpe_plays_the_same;
+pub use files::{mpe_plays_the_same, plans_serve};
 pub use follows::{mpe_follows, zones_are_set_up};
