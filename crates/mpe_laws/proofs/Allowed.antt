@@ -1,5 +1,5 @@
 -- Allowed zones are as asked: their setup sets them up, and the places of their rows are their members.
-use Rattle.std.proofs.Common.{◌≡◌, ◌≢◌, ◌<◌, ◌≤◌, ◌+◌, ◌-◌, ◌&&◌, arith, ℕ, zero, suc, Bool, true, false, cond, List, [], ◌∷◌, Option, Some, None, refl, ap, sym, ◌∙◌, subst, nat_eq, nat_le, nat_lt, get_or, inl, inr}
+use Rattle.std.proofs.Common.{◌≡◌, ◌≢◌, ◌<◌, ◌≤◌, ◌+◌, ◌-◌, ◌&&◌, arith, ℕ, zero, suc, Bool, true, false, cond, List, [], ◌∷◌, Option, Some, None, refl, ap, sym, ◌∙◌, subst, nat_eq, nat_le, nat_lt, get_or, length, inl, inr}
 use Rattle.std.proofs.lemmas.Bool.{cases_Bool, eqb-true, eq-eqb, ne_eqb, and_from, and_right, le-leb, lt-leb}
 use Rattle.std.specs.List.{AllByRecursion}
 use Rattle.midi_model.specs.Zones.{Zones, no_zones, master, governor}
@@ -23,6 +23,7 @@ pub record Asked (o : Options) (zones : List Zone) : Type 0 where
   pub row : AreZones o zones
   pub sets : SetsUp o zones
   pub members : (c : ℕ) (w : Zone) → zone_of c zones ≡ Some w → AreMembers zones w
+  pub two : length zones ≤ 2
   pub few : AllByRecursion (λ z. z.members ≤ 15) zones
   pub each : AllByRecursion (λ z. zone_of z.part zones ≡ Some z) zones
 
@@ -100,6 +101,7 @@ none_asked o route = record {
     notes = refl;
   };
   members = λ c w h. absurd cc;
+  two = omega arith;
   few = tt;
   each = tt;
 }
@@ -124,6 +126,7 @@ one_asked laws o route c a low part few drums = record {
   sets = one_sets_up laws o c a few;
   members = λ d w h. each_of (AreMembers (zone_with false (c, suc a) ∷ [])) d (zone_with false (c, suc a)) [] (one_members c a few)
       (none_of (AreMembers (zone_with false (c, suc a) ∷ [])) d) w h;
+  two = omega arith;
   few = (few, tt);
   each = (first_found (zone_with false (c, suc a)) [], tt);
 }
@@ -160,6 +163,7 @@ two_asked laws o route c d a b low_c low_d differ part_c part_d few drums =
       sets = two_sets_up laws o c d a b few;
       members = λ q w h. each_of P q l (u ∷ []) (lower_ones c d a b few)
           (each_of P q u [] (upper_ones c d a b few) (none_of P q)) w h;
+      two = omega arith;
       few = (omega (arith, few), (omega (arith, few), tt));
       each = (first_found l (u ∷ []), (second_found c d l u differ refl (first_found u []), tt));
     }

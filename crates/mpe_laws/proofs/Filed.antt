@@ -23,19 +23,19 @@ use Rattle.mpe_laws.proofs.Passing.{setup_of}
 
 -- ---- what is written for an event
 
-abbrev setup_first : Options → List Zone → Zoned → MidiEvent → List MidiWhat
+abbrev pub setup_first : Options → List Zone → Zoned → MidiEvent → List MidiWhat
 setup_first o zones s e = setup_before (setup_of o zones) s.begun (doing e.what)
 
-abbrev caused : Options → Targets → List Zone → PortRuns → Zoned → Numbered → List MidiWhat
+abbrev pub caused : Options → Targets → List Zone → PortRuns → Zoned → Numbered → List MidiWhat
 caused o table zones runs s n = mpe_causes runs.number o table zones (runs.pairs (before_it n.position)) s.source
     (play s.out (placed_at n.event (setup_first o zones s n.event))) (runs.channel (before_it n.position)) (runs.channel n.position) n.event.tick
     n.event.what
 
-abbrev all_of : Options → Targets → List Zone → PortRuns → Zoned → Numbered → List MidiWhat
+abbrev pub all_of : Options → Targets → List Zone → PortRuns → Zoned → Numbered → List MidiWhat
 all_of o table zones runs s n = setup_first o zones s n.event
     ++ (caused o table zones runs s n ++ setup_behind (setup_of o zones) s.begun (doing n.event.what))
 
-placed_is : (o : Options) (table : Targets) (zones : List Zone) (runs : PortRuns) (s : Zoned) (n : Numbered) →
+pub placed_is : (o : Options) (table : Targets) (zones : List Zone) (runs : PortRuns) (s : Zoned) (n : Numbered) →
     zoned_block o table zones runs s n ≡ placed_at n.event (all_of o table zones runs s n)
 placed_is o table zones runs s n = sym (map_append (λ (w : MidiWhat). record n.event { what = w }) (setup_first o zones s n.event)
     (caused o table zones runs s n ++ setup_behind (setup_of o zones) s.begun (doing n.event.what)))
@@ -113,20 +113,20 @@ block_other o table zones runs s k t place (MetaOf kind bytes) track =
 
 -- ---- the file
 
-abbrev file_from : Options → Targets → (ℕ → List Zone) → (ℕ → PortRuns) → (ℕ → ℕ) → ℕ → (ℕ → Zoned) → List MidiEvent → List MidiEvent
+abbrev pub file_from : Options → Targets → (ℕ → List Zone) → (ℕ → PortRuns) → (ℕ → ℕ) → ℕ → (ℕ → Zoned) → List MidiEvent → List MidiEvent
 file_from o table zones runs ports k s es = through_ports_from (λ z x n. zoned_block o table (zones z) (runs z) x n)
     (λ z x n. next_zoned o table (zones z) (runs z) x n) ports k s es
 
 abbrev pub file_output : Options → Targets → (ℕ → List Zone) → (ℕ → PortRuns) → List MidiEvent → List MidiEvent
 file_output o table zones runs es = file_from o table zones runs all_zero 0 (λ z. unzoned) es
 
-abbrev state_after : Options → Targets → (ℕ → List Zone) → (ℕ → PortRuns) → (ℕ → ℕ) → ℕ → (ℕ → Zoned) → MidiEvent → ℕ → Zoned
+abbrev pub state_after : Options → Targets → (ℕ → List Zone) → (ℕ → PortRuns) → (ℕ → ℕ) → ℕ → (ℕ → Zoned) → MidiEvent → ℕ → Zoned
 state_after o table zones runs ports k s e =
     let z = port_of ports e in
     let n : Numbered = record { position = suc k; event = e } in
     kept_for z (next_zoned o table (zones z) (runs z) (s z) n) s
 
-abbrev numbered : ℕ → MidiEvent → Numbered
+abbrev pub numbered : ℕ → MidiEvent → Numbered
 numbered k e = record { position = suc k; event = e }
 
 other_same : (o : Options) (table : Targets) (zones : ℕ → List Zone) (runs : ℕ → PortRuns) (ports : ℕ → ℕ) (k : ℕ) (s : ℕ → Zoned)

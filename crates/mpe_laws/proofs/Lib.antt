@@ -29,3 +29,4 @@ pub mod Filed
 pub mod Portwise
 pub mod Whole
 pub mod Fitting
+pub mod Sizes

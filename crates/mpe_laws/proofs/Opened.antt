@@ -8,9 +8,10 @@ use Rattle.midi_model.specs.Music.{Music, quiet, play}
 use Rattle.retune_model.specs.Options.{Options}
 use Rattle.retune_model.specs.Faults.{Targets, is_part}
 use Rattle.retune_model.specs.Pairs.{Pair}
-use Rattle.retune_model.specs.Ports.{Numbered, Ascend}
+use Rattle.retune_model.specs.Ports.{Numbered, Ascend, unnumbered, events_to}
+use Rattle.retune_model.specs.Plain.{has_begun}
 use Rattle.channel_model.specs.BendOutput.{PortRuns, placed_at}
-use Rattle.channel_model.specs.MpeOutput.{Zone, Zoned, unzoned, zoned_block, zones_setup, zone_of, in_zone, setup_behind, mpe_block}
+use Rattle.channel_model.specs.MpeOutput.{Zone, Zoned, unzoned, zoned_block, next_zoned, zones_setup, zone_of, in_zone, setup_behind, mpe_block}
 use Rattle.bend_laws.specs.Moments.{Moment, moment}
 use Rattle.bend_laws.specs.Follows.{Has}
 use Rattle.bend_laws.specs.Positions.{port_event, up_to_position}
@@ -26,7 +27,7 @@ use Rattle.mpe_laws.specs.Positions.{zoned_at, FollowsAt}
 use Rattle.mpe_laws.proofs.Standing.{Laws}
 use Rattle.mpe_laws.proofs.Passing.{setup_of}
 use Rattle.mpe_laws.proofs.Everywhere.{set_up, what_at, no_setup, none_behind}
-use Rattle.mpe_laws.proofs.Played.{at_event, over_is, out_is}
+use Rattle.mpe_laws.proofs.Played.{zoned_over, at_event, over_is, out_is}
 use Rattle.mpe_laws.proofs.Ticked.{zoned_output, output_append}
 
 -- ---- block by block
@@ -70,6 +71,17 @@ pub all_zoned : (o : Options) (table : Targets) (zones : List Zone) (runs : Port
     zoned_to o table zones runs ns last ≡ zoned_output o table zones runs unzoned ns
 all_zoned o table zones runs ns last timely = zoned_is o table zones runs ns timely.rising last
     ∙ ap (zoned_output o table zones runs unzoned) (all_up last ns timely.within)
+
+-- whether a message came
+begun_over : (o : Options) (table : Targets) (zones : List Zone) (runs : PortRuns) (s : Zoned) (ns : List Numbered) →
+    (zoned_over o table zones runs s ns).begun ≡ has_begun s.begun (unnumbered ns)
+begun_over o table zones runs s [] = refl
+begun_over o table zones runs s (n ∷ ns) = begun_over o table zones runs (next_zoned o table zones runs s n) ns
+
+pub begun_is : (o : Options) (table : Targets) (zones : List Zone) (runs : PortRuns) (ns : List Numbered) → Ascend 0 ns → (k : ℕ) →
+    (zoned_at o table zones runs ns k).begun ≡ has_begun false (events_to k ns)
+begun_is o table zones runs ns r k = ap (λ (s : Zoned). s.begun) (sym (over_is o table zones runs ns r k))
+    ∙ begun_over o table zones runs unzoned (up_to_position k ns)
 
 -- ---- the setup before a block
 

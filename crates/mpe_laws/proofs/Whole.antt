@@ -23,12 +23,14 @@ use Rattle.bend_laws.proofs.Pitching.{PitchLaws}
 use Rattle.bend_laws.proofs.Drumless.{NoDrums, none_has}
 use Rattle.mpe_laws.specs.Positions.{zoned_at, FollowsAt}
 use Rattle.mpe_laws.specs.Sources.{on_port, IsMpe, IsOnZones}
-use Rattle.mpe_laws.specs.FileLaws.{PortsFollow, PortsAreTheirEvents, PortsAreTheirBlocks, ZonedPlaysTheSame, ZonedFilePlaysTheSame, ZonedIsPlayable, ZonedIsOnZones}
+use Rattle.mpe_laws.specs.FileLaws.{PortsFollow, PortsAreTheirEvents, PortsAreTheirBlocks, ZonedPlaysTheSame, ZonedFilePlaysTheSame, ZonedIsPlayable, ZonedIsOnZones, PortsBegin, ZonedAddsFewBytes}
 use Rattle.mpe_laws.proofs.Standing.{Laws}
 use Rattle.mpe_laws.proofs.Planning.{IsPlanned}
 use Rattle.mpe_laws.proofs.Allowed.{Asked, allowed_zones, allowed_as}
 use Rattle.mpe_laws.proofs.Everywhere.{follows_at, source_is}
 use Rattle.mpe_laws.proofs.Played.{out_is}
+use Rattle.mpe_laws.proofs.Sizes.{output_short}
+use Rattle.mpe_laws.proofs.Opened.{begun_is}
 use Rattle.mpe_laws.proofs.Ported.{PortFacts, planned_port}
 use Rattle.mpe_laws.proofs.Ticked.{zoned_output, same_notes}
 use Rattle.mpe_laws.proofs.Heard.{Scaled, same_sound}
@@ -67,14 +69,19 @@ and_true : (a b : Bool) → b ≡ true → (a && b) ≡ a
 and_true true b h = h
 and_true false b h = refl
 
+port_asked : Given → (o : Options) (table : Targets) (es : List MidiEvent) (zones : ℕ → List Zone) (channel : ℕ → ℕ → Pair → ℕ) →
+    IsMpe o table es zones channel → (z : ℕ) → Asked (on_port o es z) (zones z)
+port_asked f o table es zones channel b z = allowed_zones f.laws (on_port o es z) b.route (zones z)
+    (allowed_as o (on_port o es z) (keeps_drums o (events_on z es)) (parts_stay o.keep_drums (has_drums (events_on z es))) (zones z)
+    (b.ports z).allowed)
+
 on_port_of : Given → (o : Options) (table : Targets) (es : List MidiEvent) (zones : ℕ → List Zone) (channel : ℕ → ℕ → Pair → ℕ) →
     IsMpe o table es zones channel → (z : ℕ) → OnPort o table es zones channel z
 on_port_of f o table es zones channel b z =
     let drums : Bool = keeps_drums o (events_on z es) in
     let runs : PortRuns = runs_on o table es channel z in
     let ns : List Numbered = of_port z es in
-    let asked : Asked (on_port o es z) (zones z) = allowed_zones f.laws (on_port o es z) b.route (zones z)
-    (allowed_as o (on_port o es z) drums (parts_stay o.keep_drums (has_drums (events_on z es))) (zones z) (b.ports z).allowed) in
+    let asked : Asked (on_port o es z) (zones z) = port_asked f o table es zones channel b z in
     let planned : IsPlanned o table (zones z) runs ns (length es) = planned_port f.facts o table es zones channel b z (on_port o es z) asked in
     let S : Bool → Type 0 = λ x. IsPlanned (with_drums x o) table (zones z) runs ns (length es)
     × ((zoned_output (with_drums x o) table (zones z) runs unzoned ns ≡ zoned_output o table (zones z) runs unzoned ns)
@@ -114,6 +121,10 @@ port_source f o table es zones channel b z k = source_is o table (zones z) (runs
 
 pub port_out : Given → PortsAreTheirBlocks
 port_out f o table es zones channel b z = out_is o table (zones z) (runs_on o table es channel z) (of_port z es)
+    (f.facts.timed z es b.sound.in_order).ascend
+
+pub port_begins : Given → PortsBegin
+port_begins f o table es zones channel b z = begun_is o table (zones z) (runs_on o table es channel z) (of_port z es)
     (f.facts.timed z es b.sound.in_order).ascend
 
 -- the music of a port
@@ -185,3 +196,8 @@ file_zoned f o table es zones channel b z =
     subst (AllByRecursion (IsOnZones (is_part q) (zones z))) (p.out ∙ sym (f.apart o table zones channel es z))
     (output_holds f.laws (IsOnZones (is_part q) (zones z)) q table (zones z) p.asked b.range (blocks_zoned q (zones z))
     (runs_on o table es channel z) (of_port z es) (length es) p.planned p.timely)
+
+pub file_short : Given → ZonedAddsFewBytes
+file_short f o table es zones channel b track = output_short track o table zones (λ z. (
+    let asked : Asked (on_port o es z) (zones z) = port_asked f o table es zones channel b z in record { two = asked.two; few = asked.few }))
+    (runs_on o table es channel) es

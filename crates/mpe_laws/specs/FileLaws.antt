@@ -1,13 +1,15 @@
 -- What the MPE route writes for the events of a file, where each port has zones and plans.
-use Rattle.std.specs.Prelude.{◌≡◌, ◌≤◌, ℕ, List, length}
+use Rattle.std.specs.Prelude.{◌≡◌, ◌≤◌, ◌+◌, ◌*◌, ℕ, List, length, map, false}
 use Rattle.std.specs.List.{AllByRecursion}
 use Rattle.mt_base.specs.Midi.{MidiEvent}
-use Rattle.midi_model.specs.Merged.{IsPlayable, merged}
+use Rattle.midi_model.specs.Merged.{IsPlayable, merged, of_track, timed}
+use Rattle.midi_model.specs.SizeLaws.{most_of_track}
 use Rattle.midi_model.specs.FileText.{MidiFile}
 use Rattle.midi_model.specs.Music.{quiet, play}
 use Rattle.retune_model.specs.Table.{Scaling}
 use Rattle.retune_model.specs.Options.{Options, keeps_drums, is_retuned}
-use Rattle.retune_model.specs.Ports.{of_port, events_on, music_at}
+use Rattle.retune_model.specs.Ports.{of_port, events_on, events_to, music_at}
+use Rattle.retune_model.specs.Plain.{has_begun}
 use Rattle.retune_model.specs.PlaysTheSame.{plain_device, PlayTheSame, HasSameShape, PlaysTheSame}
 use Rattle.retune_model.specs.Faults.{Targets}
 use Rattle.retune_model.specs.Pairs.{Pair}
@@ -40,6 +42,11 @@ PortsAreTheirBlocks = OfMpe (λ o table es zones channel. (z k : ℕ) → (let r
     (zoned_at o table (zones z) runs (of_port z es) k).out ≡ play quiet (through (zoned_block o table (zones z) runs)
     (next_zoned o table (zones z) runs) unzoned (up_to_position k (of_port z es)))))
 
+-- and it stands at its setup from the port's first message on
+abbrev pub PortsBegin : Type 0
+PortsBegin = OfMpe (λ o table es zones channel. (z k : ℕ) →
+    (zoned_at o table (zones z) (runs_on o table es channel z) (of_port z es) k).begun ≡ has_begun false (events_to k (of_port z es)))
+
 -- so the whole plays the same
 abbrev pub ZonedPlaysTheSame : Type 0
 ZonedPlaysTheSame = OfMpe (λ o table es zones channel. (scaling : Scaling) → IsTuned scaling o table →
@@ -60,6 +67,12 @@ ZonedIsPlayable = OfMpe (λ o table es zones channel. (tracks : ℕ) → IsPlaya
 abbrev pub ZonedIsOnZones : Type 0
 ZonedIsOnZones = OfMpe (λ o table es zones channel. (z : ℕ) →
     AllByRecursion (IsOnZones (is_retuned (keeps_drums o (events_on z es))) (zones z)) (events_on z (mpe_output o table zones channel es)))
+
+-- in each track, each source event causes at most 1,600 bytes beside its own
+abbrev pub ZonedAddsFewBytes : Type 0
+ZonedAddsFewBytes = OfMpe (λ o table es zones channel. (track : ℕ) →
+    most_of_track (map timed (of_track track (mpe_output o table zones channel es)))
+    ≤ most_of_track (map timed (of_track track es)) + 1600 * length es)
 
 -- the plans of a source that fits are such zones and plans
 abbrev pub PlansServe : Type 0

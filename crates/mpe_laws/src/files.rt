@@ -1,6 +1,6 @@
 //! What the MPE route writes for a file.
 
-ghost use Rattle.mpe_laws.specs.FileLaws.{PortsFollow, PortsAreTheirEvents, PortsAreTheirBlocks, ZonedPlaysTheSame, ZonedFilePlaysTheSame, ZonedIsPlayable, ZonedIsOnZones, PlansServe};
+ghost use Rattle.mpe_laws.specs.FileLaws.{PortsFollow, PortsAreTheirEvents, PortsAreTheirBlocks, PortsBegin, ZonedPlaysTheSame, ZonedFilePlaysTheSame, ZonedIsPlayable, ZonedIsOnZones, ZonedAddsFewBytes, PlansServe};
 
 use channel_model::{best_is_free, outputs_apart};
 use midi_model::{music_laws, parameter_laws};
@@ -16,15 +16,18 @@ use retune_model::{
 /// each master is at its part's state; and the member of each pair that is there has the pair's bend. So the whole plays the same: on
 /// every port and at every tick the same notes, each with its source's controllers, pressures and parameters, within half a step of a bend
 /// and a thousandth of a cent of its source pitch, and right from its beginning; all other events and kept drums are passed on. It can be
-/// written as a file with the source's tracks, and speaks to no channel of a port but masters and members, kept drums aside.
+/// written as a file with the source's tracks, each event with at most 1,600 bytes beside its own, and speaks to no channel of a port but
+/// masters and members, kept drums aside.
 pub fn mpe_plays_the_same()
     ensures ports { PortsFollow }
     ensures source { PortsAreTheirEvents }
     ensures out { PortsAreTheirBlocks }
+    ensures begun { PortsBegin }
     ensures same { ZonedPlaysTheSame }
     ensures file { ZonedFilePlaysTheSame }
     ensures playable { ZonedIsPlayable }
     ensures on_zones { ZonedIsOnZones }
+    ensures few_bytes { ZonedAddsFewBytes }
 {
     best_is_free();
     outputs_apart();

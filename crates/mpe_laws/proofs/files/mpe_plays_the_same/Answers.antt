@@ -1,6 +1,6 @@
 use Rattle.mpe_laws.proofs.Standing.{Laws}
 use Rattle.mpe_laws.proofs.Ported.{PortFacts}
-use Rattle.mpe_laws.proofs.Whole.{Given, port_follows, port_source, port_out, same_file, whole_file, file_playable, file_zoned}
+use Rattle.mpe_laws.proofs.Whole.{Given, port_follows, port_source, port_out, port_begins, same_file, whole_file, file_playable, file_zoned, file_short}
 use Rattle.mpe_laws.proofs.files.mpe_plays_the_same.Goals as goal
 
 pub returns : goal.returns
@@ -40,8 +40,10 @@ returns c =
       ports = port_follows all;
       source = port_source all;
       out = port_out all;
+      begun = port_begins all;
       same = same_file all;
       file = whole_file all;
       playable = file_playable all;
       on_zones = file_zoned all;
+      few_bytes = file_short all;
     }
