@@ -184,7 +184,7 @@ part_none port o table k before after out t (Program c p) h = all_none o table a
 part_none port o table k before after out t (Pressure c v) h = all_none o table after out (held_by k.old c k.holds)
 part_none port o table k before after out t (Bend c v) h = all_none o table after out (held_by k.old c k.holds)
 
-none_planned : (port : ℕ) (o : Options) (table : Targets) (place : Pair → ℕ) (t : ℕ) (msg : Msg) → NoNote msg →
+pub none_planned : (port : ℕ) (o : Options) (table : Targets) (place : Pair → ℕ) (t : ℕ) (msg : Msg) → NoNote msg →
     channel_begun port o table place t (Says msg) ≡ []
 none_planned port o table place t (NoteOn c k zero) h = refl
 none_planned port o table place t (NoteOn c k (suc v)) h = absurd h
@@ -229,13 +229,26 @@ Placed port o table k t (Says (NoteOn c j (suc v))) = is_part o c ≡ true → (
     is_part o (k.new (pair_with port c x)) ≡ true
 Placed port o table k t _ = Unit {0}
 
+-- a kept drum is on no channel of a part
+pub drum_same : (port : ℕ) (o : Options) (table : Targets) (place : Pair → ℕ) (t : ℕ) (m : Msg) → is_part o (channel_of m) ≡ false →
+    begun_channels o (Says m) ≡ channel_begun port o table place t (Says m)
+drum_same port o table place t (NoteOn c j zero) h = refl
+drum_same port o table place t (NoteOn c j (suc v)) h = ap (λ b. cond b (c ∷ []) []) h
+    ∙ ap (λ b. cond b (on_target port place c (bend_target_if o.range (table j t))) []) (sym h)
+drum_same port o table place t (NoteOff c j v) h = refl
+drum_same port o table place t (KeyPressure c j v) h = refl
+drum_same port o table place t (Control c n v) h = refl
+drum_same port o table place t (Program c p) h = refl
+drum_same port o table place t (Pressure c v) h = refl
+drum_same port o table place t (Bend c v) h = refl
+
 message_block : NotesFade → (port : ℕ) (o : Options) (table : Targets) (k : Moment) (before out : Music) (t track : ℕ) (msg : Msg) →
     Placed port o table k t (Says msg) →
     note_channels o (play out (port_block port o table k before out (said_at t track msg))).notes
     ≡ note_channels o out.notes ++ channel_begun port o table k.new t (Says msg)
 message_block law port o table k before out t track msg placed = elim (cases_Bool (is_part o (channel_of msg))) [
   | inr drum ↦ ap (λ es. note_channels o (play out es).notes) (drum_block port o table k before out t track msg drum)
-      ∙ step_channels law o out (said_at t track msg) ∙ ap (λ ds. note_channels o out.notes ++ ds) (drum_same msg drum)
+      ∙ step_channels law o out (said_at t track msg) ∙ ap (λ ds. note_channels o out.notes ++ ds) (drum_same port o table k.new t msg drum)
   | inl part ↦ elim (is_note msg) [
     | inl none ↦ ap (λ es. note_channels o (play out es).notes)
         (part_block port o table k before out t track msg (part_causes port o table k before
@@ -262,17 +275,6 @@ message_block law port o table k before out t track msg placed = elim (cases_Boo
         (strikes port o table k (step before e) out c (suc v) (bend_target_if o.range (table j t))) p refl)
         ∙ struck_channels law port o table k (step before e) out e c v (bend_target_if o.range (table j t)) (h p)
         ∙ ap (λ b. note_channels o out.notes ++ cond b (on_target port k.new c (bend_target_if o.range (table j t))) []) (sym p)
-
-    drum_same : (m : Msg) → is_part o (channel_of m) ≡ false → begun_channels o (Says m) ≡ channel_begun port o table k.new t (Says m)
-    drum_same (NoteOn c j zero) h = refl
-    drum_same (NoteOn c j (suc v)) h = ap (λ b. cond b (c ∷ []) []) h
-        ∙ ap (λ b. cond b (on_target port k.new c (bend_target_if o.range (table j t))) []) (sym h)
-    drum_same (NoteOff c j v) h = refl
-    drum_same (KeyPressure c j v) h = refl
-    drum_same (Control c n v) h = refl
-    drum_same (Program c p) h = refl
-    drum_same (Pressure c v) h = refl
-    drum_same (Bend c v) h = refl
 
 pub block_channels : NotesFade → (port : ℕ) (o : Options) (table : Targets) (k : Moment) (before out : Music) (t track : ℕ) (w : MidiWhat) →
     Placed port o table k t w →

@@ -44,10 +44,10 @@ use Rattle.mpe_laws.proofs.Struck.{bend_first}
 use Rattle.mpe_laws.proofs.Untuned.{QuietMasters, quiet_to}
 use Rattle.mpe_laws.proofs.Heard.{Scaled, sound_at}
 
-setup_none : (o : Options) (zones : List Zone) → Asked o zones → o.range ≤ 127 → NoNotes (zones_setup o.range zones)
+pub setup_none : (o : Options) (zones : List Zone) → Asked o zones → o.range ≤ 127 → NoNotes (zones_setup o.range zones)
 setup_none o zones asked range = setup_holds NoNote o zones (λ c n v of low part small value. tt) asked range
 
-lead_none : (o : Options) (zones : List Zone) → Asked o zones → o.range ≤ 127 → (lead : List Msg) →
+pub lead_none : (o : Options) (zones : List Zone) → Asked o zones → o.range ≤ 127 → (lead : List Msg) →
     ((lead ≡ []) ⊎ (lead ≡ zones_setup o.range zones)) → NoNotes lead
 lead_none o zones asked range lead (inl h) = subst NoNotes (sym h) tt
 lead_none o zones asked range lead (inr h) = subst NoNotes (sym h) (setup_none o zones asked range)

@@ -30,3 +30,4 @@ pub mod Portwise
 pub mod Whole
 pub mod Fitting
 pub mod Sizes
+pub mod Placed

@@ -14,7 +14,7 @@ use Rattle.retune_model.specs.Faults.{Targets, is_part}
 use Rattle.retune_model.specs.Pairs.{Pair}
 use Rattle.channel_model.specs.Laws.{ZonedPorts}
 use Rattle.channel_model.specs.BendOutput.{PortRuns, runs_on}
-use Rattle.channel_model.specs.MpeOutput.{Zone, unzoned, mpe_output}
+use Rattle.channel_model.specs.MpeOutput.{Zone, Zoned, unzoned, mpe_output}
 use Rattle.bend_laws.specs.Bent.{IsTuned}
 use Rattle.bend_laws.proofs.Ticks.{AreTimely}
 use Rattle.bend_laws.proofs.Outputs.{source_played}
@@ -23,12 +23,15 @@ use Rattle.bend_laws.proofs.Pitching.{PitchLaws}
 use Rattle.bend_laws.proofs.Drumless.{NoDrums, none_has}
 use Rattle.mpe_laws.specs.Positions.{zoned_at, FollowsAt}
 use Rattle.mpe_laws.specs.Sources.{on_port, IsMpe, IsOnZones}
-use Rattle.mpe_laws.specs.FileLaws.{PortsFollow, PortsAreTheirEvents, PortsAreTheirBlocks, ZonedPlaysTheSame, ZonedFilePlaysTheSame, ZonedIsPlayable, ZonedIsOnZones, PortsBegin, ZonedAddsFewBytes}
+use Rattle.mpe_laws.specs.FileLaws.{PortsFollow, PortsAreTheirEvents, PortsAreTheirBlocks, ZonedPlaysTheSame, ZonedFilePlaysTheSame, ZonedIsPlayable, ZonedIsOnZones, PortsBegin, PortsAreOnTheirChannels, ZonedAddsFewBytes}
 use Rattle.mpe_laws.proofs.Standing.{Laws}
 use Rattle.mpe_laws.proofs.Planning.{IsPlanned}
 use Rattle.mpe_laws.proofs.Allowed.{Asked, allowed_zones, allowed_as}
 use Rattle.mpe_laws.proofs.Everywhere.{follows_at, source_is}
 use Rattle.mpe_laws.proofs.Played.{out_is}
+use Rattle.bend_laws.specs.Simulation.{planned_channels}
+use Rattle.bend_laws.proofs.Planned.{note_channels}
+use Rattle.mpe_laws.proofs.Placed.{channels_at}
 use Rattle.mpe_laws.proofs.Sizes.{output_short}
 use Rattle.mpe_laws.proofs.Opened.{begun_is}
 use Rattle.mpe_laws.proofs.Ported.{PortFacts, planned_port}
@@ -126,6 +129,13 @@ port_out f o table es zones channel b z = out_is o table (zones z) (runs_on o ta
 pub port_begins : Given → PortsBegin
 port_begins f o table es zones channel b z = begun_is o table (zones z) (runs_on o table es channel z) (of_port z es)
     (f.facts.timed z es b.sound.in_order).ascend
+
+pub port_channels : Given → PortsAreOnTheirChannels
+port_channels f o table es zones channel b z k low =
+    let p : OnPort o table es zones channel z = on_port_of f o table es zones channel b z in
+    let runs : PortRuns = runs_on o table es channel z in
+    subst (λ (s : Zoned). note_channels (on_port o es z) s.out.notes ≡ planned_channels (on_port o es z) table runs (of_port z es) k) (p.at k)
+    (channels_at f.laws (on_port o es z) table (zones z) p.asked b.range runs (of_port z es) (length es) p.planned k low)
 
 -- the music of a port
 port_music : Given → (o : Options) (table : Targets) (es : List MidiEvent) (zones : ℕ → List Zone) (channel : ℕ → ℕ → Pair → ℕ) →

@@ -5,6 +5,7 @@ use Rattle.mt_base.specs.Midi.{MidiEvent}
 use Rattle.midi_model.specs.Merged.{IsPlayable, merged, of_track, timed}
 use Rattle.midi_model.specs.SizeLaws.{most_of_track}
 use Rattle.midi_model.specs.FileText.{MidiFile}
+use Rattle.midi_model.specs.Notes.{Note}
 use Rattle.midi_model.specs.Music.{quiet, play}
 use Rattle.retune_model.specs.Table.{Scaling}
 use Rattle.retune_model.specs.Options.{Options, keeps_drums, is_retuned}
@@ -18,6 +19,7 @@ use Rattle.channel_model.specs.BendOutput.{runs_on}
 use Rattle.channel_model.specs.MpeOutput.{Zone, unzoned, zoned_block, next_zoned, mpe_output}
 use Rattle.bend_laws.specs.Bent.{IsTuned}
 use Rattle.bend_laws.specs.Positions.{up_to_position}
+use Rattle.bend_laws.specs.Simulation.{retuned, planned_channels}
 use Rattle.mpe_laws.specs.Positions.{zoned_at, FollowsAt}
 use Rattle.channel_model.specs.Rows.{zones_on}
 use Rattle.mpe_laws.specs.Sources.{on_port, IsMpe, IsOnZones, zoned_channel, IsPlannedMpe}
@@ -46,6 +48,12 @@ PortsAreTheirBlocks = OfMpe (λ o table es zones channel. (z k : ℕ) → (let r
 abbrev pub PortsBegin : Type 0
 PortsBegin = OfMpe (λ o table es zones channel. (z k : ℕ) →
     (zoned_at o table (zones z) (runs_on o table es channel z) (of_port z es) k).begun ≡ has_begun false (events_to k (of_port z es)))
+
+-- its retuned notes are on the channels that the plan names
+abbrev pub PortsAreOnTheirChannels : Type 0
+PortsAreOnTheirChannels = OfMpe (λ o table es zones channel. (z k : ℕ) → k ≤ length es → (let runs = runs_on o table es channel z in
+    map (λ (n : Note). n.channel) (retuned (on_port o es z) (zoned_at o table (zones z) runs (of_port z es) k).out.notes)
+    ≡ planned_channels (on_port o es z) table runs (of_port z es) k))
 
 -- so the whole plays the same
 abbrev pub ZonedPlaysTheSame : Type 0

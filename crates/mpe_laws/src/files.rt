@@ -1,6 +1,6 @@
 //! What the MPE route writes for a file.
 
-ghost use Rattle.mpe_laws.specs.FileLaws.{PortsFollow, PortsAreTheirEvents, PortsAreTheirBlocks, PortsBegin, ZonedPlaysTheSame, ZonedFilePlaysTheSame, ZonedIsPlayable, ZonedIsOnZones, ZonedAddsFewBytes, PlansServe};
+ghost use Rattle.mpe_laws.specs.FileLaws.{PortsFollow, PortsAreTheirEvents, PortsAreTheirBlocks, PortsBegin, PortsAreOnTheirChannels, ZonedPlaysTheSame, ZonedFilePlaysTheSame, ZonedIsPlayable, ZonedIsOnZones, ZonedAddsFewBytes, PlansServe};
 
 use channel_model::{best_is_free, outputs_apart};
 use midi_model::{music_laws, parameter_laws};
@@ -12,7 +12,7 @@ use retune_model::{
 
 /// For a source without a fault, with allowed zones and a plan of their members for each of its ports, for any tail: at every position of
 /// the file each port's output follows its source. Before the port's first message nothing was played. From then on the zones are those
-/// that are planned, also behind each reset; the notes match one by one, each retuned one on a member of its part's zone while it sounds;
+/// that are planned, also behind each reset; the notes match one by one, each retuned one on the member of its part's zone that its plan names;
 /// each master is at its part's state; and the member of each pair that is there has the pair's bend. So the whole plays the same: on
 /// every port and at every tick the same notes, each with its source's controllers, pressures and parameters, within half a step of a bend
 /// and a thousandth of a cent of its source pitch, and right from its beginning; all other events and kept drums are passed on. It can be
@@ -23,6 +23,7 @@ pub fn mpe_plays_the_same()
     ensures source { PortsAreTheirEvents }
     ensures out { PortsAreTheirBlocks }
     ensures begun { PortsBegin }
+    ensures channels { PortsAreOnTheirChannels }
     ensures same { ZonedPlaysTheSame }
     ensures file { ZonedFilePlaysTheSame }
     ensures playable { ZonedIsPlayable }
