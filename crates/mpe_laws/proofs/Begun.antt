@@ -59,7 +59,8 @@ record Here (port : ℕ) (o : Options) (table : Targets) (zones : List Zone) (k 
   source : (after es).music ≡ m
 
 -- a block that is led by a setup begins what it begins alone, where the setup's messages are counted to those before it
-note_alike : NotesFade → (scaling : Scaling) (port : ℕ) (o : Options) (table : Targets) (zones : List Zone) → Asked o zones → (k : Moment) (m y : Music)
+note_alike : NotesFade → (scaling : Scaling) (port : ℕ) (o : Options) (table : Targets) (zones : List Zone) → Asked o zones →
+    (k : Moment) (m y : Music)
     (t track c j v : ℕ) (lead : List Msg) (es xs : List MidiEvent) → NoNotes lead →
     Here port o table zones k m y (said_at t track (NoteOn c j (suc v))) es → is_part o c ≡ true →
     (let e : MidiEvent = said_at t track (NoteOn c j (suc v)) in

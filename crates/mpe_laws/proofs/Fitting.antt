@@ -237,7 +237,8 @@ begun_some z o c t table (Says (NoteOn d k (suc v))) h a = pick (bend_target_if 
   where
     pick : (x : Option BendTarget) → bend_target_if o.range (table k t) ≡ x → (p : Pair) ×
         Has (cond (nat_eq d c) (pair_if z d (bend_target_if o.range (table k t)) []) []) p
-    pick None e = absurd (both_ways false refl (sym (ap is_some e) ∙ ap (λ b. cond b (is_some (bend_target_if o.range (table k t))) true) (sym h) ∙ a))
+    pick None e = absurd (both_ways false refl (sym (ap is_some e)
+        ∙ ap (λ b. cond b (is_some (bend_target_if o.range (table k t))) true) (sym h) ∙ a))
     pick (Some x) e = (
       pair_with z d x,
       subst (λ b. Has (cond b (pair_if z d (bend_target_if o.range (table k t)) []) []) (pair_with z d x)) (sym h)

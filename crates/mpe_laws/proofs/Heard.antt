@@ -180,7 +180,8 @@ note_sounds scaling port o table scaled zones place there m x es xs h a b y of s
     }
 
 abbrev pub SoundAlike : Scaling → Options → List MidiEvent → List MidiEvent → List Note → List Note → Type 0
-SoundAlike scaling o es xs ns ys = Pairwise (λ a b. sounds a ≡ true → SoundsTheSame scaling o (plain_device o) es xs a b) (retuned o ns) (retuned o ys)
+SoundAlike scaling o es xs ns ys = Pairwise (λ a b. sounds a ≡ true →
+    SoundsTheSame scaling o (plain_device o) es xs a b) (retuned o ns) (retuned o ys)
 
 all_sound : (scaling : Scaling) (port : ℕ) (o : Options) (table : Targets) → Scaled scaling o table → (zones : List Zone) (place : Pair → ℕ)
     (there : List Pair) (m x : Music) (es xs : List MidiEvent) → Heard port o table zones place there m x es xs →

@@ -74,7 +74,8 @@ record InZone (o : Options) (table : Targets) (es : List MidiEvent) (z : ℕ) (z
   lane : channel k p ≡ member_at w (have.row (since is_same_pair (pairs_on o (only w.part) table es z) p k))
 
 in_zone : PortFacts → (o : Options) (table : Targets) (es : List MidiEvent) (zones : ℕ → List Zone) (channel : ℕ → ℕ → Pair → ℕ) →
-    IsMpe o table es zones channel → (z : ℕ) (q : Options) → Asked q (zones z) → (w : Zone) (have : HasZonePlan o table es z w (channel z)) (k : ℕ) (p : Pair) →
+    IsMpe o table es zones channel → (z : ℕ) (q : Options) → Asked q (zones z) →
+    (w : Zone) (have : HasZonePlan o table es z w (channel z)) (k : ℕ) (p : Pair) →
     zone_of p.part.channel (zones z) ≡ Some w → k ≤ length es → Has (pairs_on o (is_part o) table es z k) p →
     InZone o table es z (zones z) (channel z) w have k p
 in_zone f o table es zones channel b z q asked w have k p of low h =

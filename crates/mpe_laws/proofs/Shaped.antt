@@ -166,7 +166,8 @@ zone_right port o table zones asked k m y t track msg h part z of = by_kind msg 
     by_kind (Bend c v) g p f = found (Bend c v) f (sent (Bend c v) f g.given.valid.what refl)
 
 part_right : (port : ℕ) (o : Options) (table : Targets) (zones : List Zone) → Asked o zones → (k : Moment) (m y : Music) (t track : ℕ) (msg : Msg) →
-    Known port o table zones k m y (said_at t track msg) → is_part o (channel_of msg) ≡ true → (u : Option Zone) → zone_of (channel_of msg) zones ≡ u →
+    Known port o table zones k m y (said_at t track msg) → is_part o (channel_of msg) ≡ true → (u : Option Zone) →
+    zone_of (channel_of msg) zones ≡ u →
     AllByRecursion (IsRight o zones) (in_zone port o table k.was m y k.old k.new t msg (zone_of (channel_of msg) zones))
 part_right port o table zones asked k m y t track msg h part None of =
     subst (λ s. AllByRecursion (IsRight o zones) (in_zone port o table k.was m y k.old k.new t msg s)) (sym of) tt

@@ -42,7 +42,8 @@ use Rattle.mpe_laws.proofs.Forwarding.{Settles, notes_told, masters_told, settle
 
 -- ---- the target, and the notes of the part that sound
 
-pub aimed : (o : Options) (table : Targets) (t c j v : ℕ) → o.route ≡ ByMpe → is_part o c ≡ true → is_unmapped o table t (NoteOn c j (suc v)) ≡ false →
+pub aimed : (o : Options) (table : Targets) (t c j v : ℕ) → o.route ≡ ByMpe → is_part o c ≡ true → is_unmapped o table t (NoteOn c j (suc v))
+    ≡ false →
     is_out_of_device o table t (NoteOn c j (suc v)) ≡ false → (x : BendTarget) × (bend_target_if o.range (table j t) ≡ Some x)
 aimed o table t c j v route part mapped device = pick (table j t) refl
   where

@@ -184,7 +184,8 @@ main_quiet laws port o table zones asked k m y t track (MetaOf kind bytes) r h q
 lead_quiet : Laws → (o : Options) (zones : List Zone) → Asked o zones → (e : MidiEvent) (r : Receiver) → IsSettled r.music → (lead : List Msg) →
     ((lead ≡ []) ⊎ (lead ≡ zones_setup o.range zones)) → (receive_all r (saying e lead)).tuning ≡ r.tuning
 lead_quiet laws o zones asked e r settled lead (inl h) = ap (λ ms. (receive_all r (saying e ms)).tuning) h
-lead_quiet laws o zones asked e r settled lead (inr h) = ap (λ ms. (receive_all r (saying e ms)).tuning) h ∙ setup_quiet laws o zones asked e r settled
+lead_quiet laws o zones asked e r settled lead (inr h) = ap (λ ms. (receive_all r (saying e ms)).tuning) h
+    ∙ setup_quiet laws o zones asked e r settled
 
 early_quiet : (zones : List Zone) (r : Receiver) (t track : ℕ) (w : MidiWhat) → ((msg : Msg) → w ≡ Says msg → ⊥) → QuietMasters zones r.tuning →
     QuietMasters zones (receive r (what_at t track w)).tuning

@@ -31,7 +31,8 @@ OfMpe P = (o : Options) (table : Targets) (es : List MidiEvent) (zones : ℕ →
 
 -- at every position of the file each port's output follows its source
 abbrev pub PortsFollow : Type 0
-PortsFollow = OfMpe (λ o table es zones channel. (z k : ℕ) → k ≤ length es → (let runs = runs_on o table es channel z in
+PortsFollow = OfMpe (λ o table es zones channel. (z k : ℕ) → k ≤ length es →
+    (let runs = runs_on o table es channel z in
     FollowsAt (on_port o es z) table (zones z) runs k (zoned_at o table (zones z) runs (of_port z es) k)))
 
 -- the musics there are those of the port's events up to the position, and of what is written for them
@@ -47,11 +48,13 @@ PortsAreTheirBlocks = OfMpe (λ o table es zones channel. (z k : ℕ) → (let r
 -- and it stands at its setup from the port's first message on
 abbrev pub PortsBegin : Type 0
 PortsBegin = OfMpe (λ o table es zones channel. (z k : ℕ) →
-    (zoned_at o table (zones z) (runs_on o table es channel z) (of_port z es) k).begun ≡ has_begun false (events_to k (of_port z es)))
+    (zoned_at o table (zones z) (runs_on o table es channel z) (of_port z es) k).begun
+    ≡ has_begun false (events_to k (of_port z es)))
 
 -- its retuned notes are on the channels that the plan names
 abbrev pub PortsAreOnTheirChannels : Type 0
-PortsAreOnTheirChannels = OfMpe (λ o table es zones channel. (z k : ℕ) → k ≤ length es → (let runs = runs_on o table es channel z in
+PortsAreOnTheirChannels = OfMpe (λ o table es zones channel. (z k : ℕ) → k ≤ length es →
+    (let runs = runs_on o table es channel z in
     map (λ (n : Note). n.channel) (retuned (on_port o es z) (zoned_at o table (zones z) runs (of_port z es) k).out.notes)
     ≡ planned_channels (on_port o es z) table runs (of_port z es) k))
 
@@ -62,8 +65,10 @@ ZonedPlaysTheSame = OfMpe (λ o table es zones channel. (scaling : Scaling) → 
 
 -- and so does a file of it
 abbrev pub ZonedFilePlaysTheSame : Type 0
-ZonedFilePlaysTheSame = (o : Options) (table : Targets) (zones : ℕ → List Zone) (channel : ℕ → ℕ → Pair → ℕ) (source out : MidiFile) →
-    HasSameShape source out → merged out ≡ mpe_output o table zones channel (merged source) → IsMpe o table (merged source) zones channel →
+ZonedFilePlaysTheSame = (o : Options) (table : Targets) (zones : ℕ → List Zone)
+    (channel : ℕ → ℕ → Pair → ℕ) (source out : MidiFile) →
+    HasSameShape source out → merged out ≡ mpe_output o table zones channel (merged source) →
+    IsMpe o table (merged source) zones channel →
     (scaling : Scaling) → IsTuned scaling o table → PlaysTheSame scaling o table source out
 
 -- and can be written as a file with the source's tracks
@@ -84,5 +89,6 @@ ZonedAddsFewBytes = OfMpe (λ o table es zones channel. (track : ℕ) →
 
 -- the plans of a source that fits are such zones and plans
 abbrev pub PlansServe : Type 0
-PlansServe = (o : Options) (table : Targets) (es : List MidiEvent) (channel : ℕ → Zone → ℕ → Pair → ℕ) → IsPlannedMpe o table es channel →
+PlansServe = (o : Options) (table : Targets) (es : List MidiEvent) (channel : ℕ → Zone → ℕ → Pair → ℕ) →
+    IsPlannedMpe o table es channel →
     IsMpe o table es (zones_on o table es) (zoned_channel (zones_on o table es) channel)

@@ -24,23 +24,25 @@ use Rattle.mpe_laws.specs.Zoned.{planned, member_state, IsMember}
 abbrev pub IsZoned : Options → List Zone → Note → Type 0
 IsZoned o zones n = is_part o n.channel ≡ true → (n.pressure ≡ 0) × ((z : Zone) × (zone_of n.channel zones ≡ Some z))
 
--- The output follows the source: their notes are matched one by one; each master is at its part's state; each member is as the
--- setup left it, but for its bend; and the member of each pair that is there has the pair's bend. m is the music of the port's source,
--- x that of its output.
-pub record Follows (port : ℕ) (o : Options) (table : Targets) (zones : List Zone) (place : Pair → ℕ) (there : List Pair) (m x : Music) : Type 0 where
+-- The output follows the source: their notes are matched one by one; each master is at its part's state; each member
+-- is as the setup left it, but for its bend; and the member of each pair that is there has the pair's bend. m is the
+-- music of the port's source, x that of its output.
+pub record Follows (port : ℕ) (o : Options) (table : Targets) (zones : List Zone)
+    (place : Pair → ℕ) (there : List Pair) (m x : Music) : Type 0 where
   pub notes : Pairwise (IsMatched port o table place) m.notes x.notes
   pub zoned : AllByRecursion (IsZoned o zones) m.notes
   pub apart : AreApart o table m.notes
   pub masters : (c : ℕ) (z : Zone) → zone_of c zones ≡ Some z → channel_at x (master_of z) ≡ channel_at m c
-  pub members : (d g : ℕ) → d < 16 → master (planned zones) d ≡ Some g → channel_at x d ≡ member_state o.range (channel_at x d).bend
+  pub members : (d g : ℕ) → d < 16 → master (planned zones) d ≡ Some g →
+      channel_at x d ≡ member_state o.range (channel_at x d).bend
   pub bent : (p : Pair) → Has there p → (channel_at x (place p)).bend ≡ bend_value (pos 8192 +ℤ p.steps)
   pub source_zones : m.zones ≡ no_zones
   pub source_settled : IsSettled m
   pub out_zones : x.zones ≡ planned zones
   pub out_settled : IsSettled x
 
--- What is given of one event of the port: it is valid and has no fault; what sounds before and after it is there; a run keeps its
--- member, and different pairs have different members.
+-- What is given of one event of the port: it is valid and has no fault; what sounds before and after it is there; a
+-- run keeps its member, and different pairs have different members.
 pub record IsGiven (port : ℕ) (o : Options) (table : Targets) (zones : List Zone) (k : Moment) (before : Music) (e : MidiEvent) : Type 0 where
   pub valid : IsValidEvent e
   pub faultless : kind_in port o table e.tick before (step before e) false k.is e.what ≡ None

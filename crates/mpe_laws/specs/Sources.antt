@@ -29,16 +29,18 @@ pub record IsZone (o : Options) (upper : Bool) (most : ℕ) (zone : Zone) : Type
   pub some : 0 < zone.members
   pub few : zone.members ≤ most
 
--- No zone; or the lower one; or the lower and the upper one, of two parts. Each with an allowed number of members, which leaves channel 10
--- out where the port keeps drums.
+-- No zone; or the lower one; or the lower and the upper one, of two parts. Each with an allowed number of members,
+-- which leaves channel 10 out where the port keeps drums.
 abbrev pub AreAllowed : Options → Bool → List Zone → Type 0
 AreAllowed o drums [] = Unit {0}
 AreAllowed o drums (l ∷ []) = IsZone o false (lower_allowed drums (l ∷ [])) l
-AreAllowed o drums (l ∷ u ∷ []) = IsZone o false (lower_allowed drums (l ∷ u ∷ [])) l × (IsZone o true (upper_allowed drums) u × (l.part ≢ u.part))
+AreAllowed o drums (l ∷ u ∷ []) = IsZone o false (lower_allowed drums (l ∷ u ∷ [])) l ×
+    (IsZone o true (upper_allowed drums) u × (l.part ≢ u.part))
 AreAllowed o drums (l ∷ u ∷ _ ∷ _) = ⊥
 
 -- the plan of a zone, with its instant and its row
-pub record HasZonePlan (o : Options) (table : Targets) (es : List MidiEvent) (z : ℕ) (zone : Zone) (channel : ℕ → Pair → ℕ) : Type 0 where
+pub record HasZonePlan (o : Options) (table : Targets) (es : List MidiEvent) (z : ℕ) (zone : Zone)
+    (channel : ℕ → Pair → ℕ) : Type 0 where
   pub instant : ℕ
   pub row : ℕ → ℕ
   pub plan : IsZonePlan o table es z zone instant row channel
@@ -51,16 +53,19 @@ pub record IsZonedPort (o : Options) (table : Targets) (es : List MidiEvent) (z 
   pub plans : (c : ℕ) (zone : Zone) → zone_of c zones ≡ Some zone → HasZonePlan o table es z zone channel
 
 -- The events are valid and have no fault, and each port has zones and plans.
-pub record IsMpe (o : Options) (table : Targets) (es : List MidiEvent) (zones : ℕ → List Zone) (channel : ℕ → ℕ → Pair → ℕ) : Type 0 where
+pub record IsMpe (o : Options) (table : Targets) (es : List MidiEvent) (zones : ℕ → List Zone)
+    (channel : ℕ → ℕ → Pair → ℕ) : Type 0 where
   pub route : o.route ≡ ByMpe
   pub range : o.range ≤ 127
   pub valid : AllByRecursion IsValidEvent es
   pub sound : IsSound o table es
   pub ports : (z : ℕ) → IsZonedPort o table es z (zones z) (channel z)
 
--- A message of a part is on the master of a part's zone or on one of its members; what is no such message, as a kept drum, is not looked at.
+-- A message of a part is on the master of a part's zone or on one of its members; what is no such message, as a kept
+-- drum, is not looked at.
 abbrev pub IsOnZones : (ℕ → Bool) → List Zone → MidiEvent → Type 0
-IsOnZones part zones e = (msg : Msg) → e.what ≡ Says msg → part (channel_of msg) ≡ true → IsOfZone zones (channel_of msg)
+IsOnZones part zones e = (msg : Msg) → e.what ≡ Says msg → part (channel_of msg) ≡ true →
+    IsOfZone zones (channel_of msg)
 
 -- ---- as a plan gives them
 
@@ -72,11 +77,14 @@ in_its_zone channel k p None = 0
 abbrev pub zoned_channel : (ℕ → List Zone) → (ℕ → Zone → ℕ → Pair → ℕ) → ℕ → ℕ → Pair → ℕ
 zoned_channel zones channel z k p = in_its_zone (channel z) k p (zone_of p.part.channel (zones z))
 
--- A source that fits on this route, with a plan of each zone of each port: of the zones that the parts with notes need.
-pub record IsPlannedMpe (o : Options) (table : Targets) (es : List MidiEvent) (channel : ℕ → Zone → ℕ → Pair → ℕ) : Type 0 where
+-- A source that fits on this route, with a plan of each zone of each port: of the zones that the parts with notes
+-- need.
+pub record IsPlannedMpe (o : Options) (table : Targets) (es : List MidiEvent)
+    (channel : ℕ → Zone → ℕ → Pair → ℕ) : Type 0 where
   pub route : o.route ≡ ByMpe
   pub range : o.range ≤ 127
   pub valid : AllByRecursion IsValidEvent es
   pub sound : IsSound o table es
   pub fits : (z : ℕ) → HasFewParts o es z × ZonesFit o table es z
-  pub plans : (z i : ℕ) (zone : Zone) → nth i (zones_on o table es z) ≡ Some zone → HasZonePlan o table es z zone (channel z zone)
+  pub plans : (z i : ℕ) (zone : Zone) → nth i (zones_on o table es z) ≡ Some zone →
+      HasZonePlan o table es z zone (channel z zone)

@@ -30,13 +30,14 @@ member_state range bend = record {
   pressure = 0;
 }
 
--- What is known of the zones: each part has a master of its own, which governs itself and is no member; drums are kept on a channel
--- that is in no zone.
+-- What is known of the zones: each part has a master of its own, which governs itself and is no member; drums are
+-- kept on a channel that is in no zone.
 pub record AreZones (o : Options) (zones : List Zone) : Type 0 where
   pub route : o.route ≡ ByMpe
   pub low : (c : ℕ) (z : Zone) → zone_of c zones ≡ Some z → c < 16
   pub retuned_part : (c : ℕ) (z : Zone) → zone_of c zones ≡ Some z → is_part o c ≡ true
-  pub own : (c d : ℕ) (z w : Zone) → zone_of c zones ≡ Some z → zone_of d zones ≡ Some w → master_of z ≡ master_of w → c ≡ d
+  pub own : (c d : ℕ) (z w : Zone) → zone_of c zones ≡ Some z → zone_of d zones ≡ Some w →
+      master_of z ≡ master_of w → c ≡ d
   pub low_master : (c : ℕ) (z : Zone) → zone_of c zones ≡ Some z → master_of z < 16
   pub retuned_master : (c : ℕ) (z : Zone) → zone_of c zones ≡ Some z → is_part o (master_of z) ≡ true
   pub beside : (c d g : ℕ) (w : Zone) → master (planned zones) d ≡ Some g → zone_of c zones ≡ Some w → d ≢ master_of w
@@ -51,7 +52,8 @@ pub record IsMember (zones : List Zone) (p : Pair) (d : ℕ) : Type 0 where
   pub is : master (planned zones) d ≡ Some (master_of zone)
   pub low : d < 16
 
--- The zones are those planned, the masters are at their defaults, the members as the setup leaves them; and the notes are these.
+-- The zones are those planned, the masters are at their defaults, the members as the setup leaves them; and the notes
+-- are these.
 pub record IsSetUp (o : Options) (zones : List Zone) (ns : List Note) (x : Music) : Type 0 where
   pub zones_are : x.zones ≡ planned zones
   pub masters : (c : ℕ) (z : Zone) → zone_of c zones ≡ Some z → channel_at x (master_of z) ≡ default_channel

@@ -10,14 +10,15 @@ use retune_model::{
     zone_entries_set_zones,
 };
 
-/// For a source without a fault, with allowed zones and a plan of their members for each of its ports, for any tail: at every position of
-/// the file each port's output follows its source. Before the port's first message nothing was played. From then on the zones are those
-/// that are planned, also behind each reset; the notes match one by one, each retuned one on the member of its part's zone that its plan names;
-/// each master is at its part's state; and the member of each pair that is there has the pair's bend. So the whole plays the same: on
-/// every port and at every tick the same notes, each with its source's controllers, pressures and parameters, within half a step of a bend
-/// and a thousandth of a cent of its source pitch, and right from its beginning; all other events and kept drums are passed on. It can be
-/// written as a file with the source's tracks, each event with at most 1,600 bytes beside its own, and speaks to no channel of a port but
-/// masters and members, kept drums aside.
+/// For a source without a fault, with allowed zones and a plan of their members for each of its ports, for any tail:
+/// at every position of the file each port's output follows its source. Before the port's first message nothing was
+/// played. From then on the zones are those that are planned, also behind each reset; the notes match one by one,
+/// each retuned one on the member of its part's zone that its plan names; each master is at its part's state; and the
+/// member of each pair that is there has the pair's bend. So the whole plays the same: on every port and at every
+/// tick the same notes, each with its source's controllers, pressures and parameters, within half a step of a bend
+/// and a thousandth of a cent of its source pitch, and right from its beginning; all other events and kept drums are
+/// passed on. It can be written as a file with the source's tracks, each event with at most 1,600 bytes beside its
+/// own, and speaks to no channel of a port but masters and members, kept drums aside.
 pub fn mpe_plays_the_same()
     ensures ports { PortsFollow }
     ensures source { PortsAreTheirEvents }
@@ -46,8 +47,8 @@ pub fn mpe_plays_the_same()
     wider();
 }
 
-/// A source without a fault that isn't refused on the MPE route, with a plan of each zone that its parts with notes need, is such a
-/// source: its zones are allowed and set apart, and each part that has a pair has one.
+/// A source without a fault that isn't refused on the MPE route, with a plan of each zone that its parts with notes
+/// need, is such a source: its zones are allowed and set apart, and each part that has a pair has one.
 pub fn plans_serve()
     ensures serve { PlansServe }
 {

@@ -13,7 +13,8 @@ pub fn mpe_follows()
     zone_entries_set_zones();
 }
 
-/// What is asked of the zones holds of one zone and of two: the setup sets them up, and their masters and members are as asked.
+/// What is asked of the zones holds of one zone and of two: the setup sets them up, and their masters and members are
+/// as asked.
 pub fn zones_are_set_up()
     ensures one_set_up { OneZoneIsSetUp }
     ensures one { OneZoneIsAZone }

@@ -1,4 +1,5 @@
-//! What the MPE route writes plays the same: laws alone. The functions do nothing: their contracts are what is stated.
+//! What the MPE route writes plays the same: laws alone. The functions do nothing: their contracts are what is
+//! stated.
 #![tactic(auto)]
 
 mod files;
