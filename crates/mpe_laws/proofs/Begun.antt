@@ -45,7 +45,7 @@ use Rattle.mpe_laws.proofs.Untuned.{QuietMasters, quiet_to}
 use Rattle.mpe_laws.proofs.Heard.{Scaled, sound_at}
 
 pub setup_none : (o : Options) (zones : List Zone) → Asked o zones → o.range ≤ 127 → NoNotes (zones_setup o.range zones)
-setup_none o zones asked range = setup_holds NoNote o zones (λ c n v of low part small value. tt) asked range
+setup_none o zones asked range = setup_holds NoNote o zones (λ c n v of low part small value other. tt) asked range
 
 pub lead_none : (o : Options) (zones : List Zone) → Asked o zones → o.range ≤ 127 → (lead : List Msg) →
     ((lead ≡ []) ⊎ (lead ≡ zones_setup o.range zones)) → NoNotes lead
@@ -53,7 +53,8 @@ lead_none o zones asked range lead (inl h) = subst NoNotes (sym h) tt
 lead_none o zones asked range lead (inr h) = subst NoNotes (sym h) (setup_none o zones asked range)
 
 -- what is known where a block begins: the events before it, those of the source and those written
-record Here (port : ℕ) (o : Options) (table : Targets) (zones : List Zone) (k : Moment) (m y : Music) (e : MidiEvent) (es : List MidiEvent) : Type 0 where
+record Here (port : ℕ) (o : Options) (table : Targets) (zones : List Zone) (k : Moment) (m y : Music) (e : MidiEvent)
+    (es : List MidiEvent) : Type 0 where
   follows : Follows port o table zones k.old k.was m y
   given : IsGiven port o table zones k m e
   source : (after es).music ≡ m
@@ -165,7 +166,8 @@ led_alike fade scaling port o table zones asked range k m y t track (Says msg) l
         HeardAlike scaling o (es ++ said_at t track u ∷ [])
         (xs ++ (saying (said_at t track u) lead ++ mpe_block port o table zones k.was true m y k.old k.new (said_at t track u))) →
         StartAlike scaling o (beginnings_from (is_part o) es (said_at t track u ∷ []))
-        (beginnings_from (is_part o) xs (saying (said_at t track u) lead ++ mpe_block port o table zones k.was true m y k.old k.new (said_at t track u)))
+        (beginnings_from (is_part o) xs (saying (said_at t track u) lead
+        ++ mpe_block port o table zones k.was true m y k.old k.new (said_at t track u)))
 led_alike fade scaling port o table zones asked range k m y t track (SysexOf lead_byte bytes) lead es xs none here heard =
     other_alike scaling port o table zones asked range k m y t track (SysexOf lead_byte bytes) lead es xs none refl
     (passed_block port o table zones k m y t track (SysexOf lead_byte bytes) tt)
@@ -207,7 +209,8 @@ begins_to laws scaling o table scaled range zones asked runs ns last g rising (s
     (sym (events_longer ns rising k))
     (go (begins_to laws scaling o table scaled range zones asked runs ns last g rising k (omega (arith, low))) (port_event ns (suc k)) refl)
   where
-    go : StartAlike scaling o (beginnings (is_part o) (unnumbered (up_to_position k ns))) (beginnings (is_part o) (zoned_to o table zones runs ns k)) →
+    go : StartAlike scaling o (beginnings (is_part o) (unnumbered (up_to_position k ns)))
+        (beginnings (is_part o) (zoned_to o table zones runs ns k)) →
         (x : Option MidiEvent) → port_event ns (suc k) ≡ x →
         StartAlike scaling o (beginnings (is_part o) (unnumbered (up_to_position k ns) ++ events_if x))
         (beginnings (is_part o) (zoned_to o table zones runs ns k ++ zoned_if o table zones runs k (zoned_at o table zones runs ns k) x))

@@ -65,7 +65,7 @@ first_block port o table zones k m x t track msg = play_append x (placed_at (sai
     (said_at t track msg) (mpe_causes port o table zones k.was m (play x (placed_at (said_at t track msg) (setup_of o zones))) k.old k.new t
     (Says msg) ++ []))
 
-quiet_settled : IsSettled quiet
+pub quiet_settled : IsSettled quiet
 quiet_settled = record { notes = λ t. refl; channels = refl }
 
 pub set_up : Laws → (port : ℕ) (o : Options) (table : Targets) (zones : List Zone) → SetsUp o zones → (place : Pair → ℕ) (there : List Pair)
@@ -75,7 +75,7 @@ set_up laws port o table zones sets place there e none = set_up_follows laws por
     (all_default 16) refl quiet_settled none
 
 -- before it nothing changes
-quiet_stays : (t : ℕ) (d : Doing) → ((msg : Msg) → d ≡ Plays msg → ⊥) → advance t d quiet ≡ quiet
+pub quiet_stays : (t : ℕ) (d : Doing) → ((msg : Msg) → d ≡ Plays msg → ⊥) → advance t d quiet ≡ quiet
 quiet_stays t (Plays msg) h = absurd (h msg refl)
 quiet_stays t Resets h = refl
 quiet_stays t (Tunes r) h = refl

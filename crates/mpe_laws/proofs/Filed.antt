@@ -199,7 +199,8 @@ around o table zones runs s k t track lead bytes =
     (refl, behind_hold (λ w. is_end w ≡ false) (λ m. refl) (zones_setup o.range zones) s.begun (doing e.what))
 
 -- a meta event is passed on alone
-meta_alone : (o : Options) (table : Targets) (zones : List Zone) (runs : PortRuns) (begun : Bool) (m x : Music) (k t track kind : ℕ) (bytes : List ℕ) →
+meta_alone : (o : Options) (table : Targets) (zones : List Zone) (runs : PortRuns) (begun : Bool) (m x : Music) (k t track kind : ℕ)
+    (bytes : List ℕ) →
     (let e : MidiEvent = record { tick = t; track = track; what = MetaOf kind bytes } in
     zoned_block o table zones runs (record { begun = begun; source = m; out = x }) (record { position = k; event = e }) ≡ e ∷ [])
 meta_alone o table zones runs true m x k t track kind bytes = refl

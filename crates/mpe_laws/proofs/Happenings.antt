@@ -99,4 +99,5 @@ pub event_kept : Laws → (port : ℕ) (o : Options) (table : Targets) (zones : 
     (m x : Music) (e : MidiEvent) →
     Follows port o table zones k.old k.was m x → IsGiven port o table zones k m e → Follows port o table zones k.new k.is (step m e) (play x
     (mpe_block port o table zones k.was true m x k.old k.new e))
-event_kept laws port o table zones row sets k m x e follows sound = what_kept laws port o table zones row sets k m x e.tick e.track e.what follows sound
+event_kept laws port o table zones row sets k m x e follows sound =
+    what_kept laws port o table zones row sets k m x e.tick e.track e.what follows sound

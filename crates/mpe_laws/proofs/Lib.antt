@@ -31,3 +31,5 @@ pub mod Whole
 pub mod Fitting
 pub mod Sizes
 pub mod Placed
+pub mod Left
+pub mod Lasting

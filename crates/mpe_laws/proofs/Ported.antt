@@ -65,15 +65,15 @@ has_passed f (q ∷ qs) p t h = elim (cases_Bool (f q)) [
 
 -- ---- the place of a pair in its zone
 
-record InZone (o : Options) (table : Targets) (es : List MidiEvent) (z : ℕ) (zones : List Zone) (channel : ℕ → Pair → ℕ) (w : Zone)
+pub record InZone (o : Options) (table : Targets) (es : List MidiEvent) (z : ℕ) (zones : List Zone) (channel : ℕ → Pair → ℕ) (w : Zone)
     (have : HasZonePlan o table es z w channel) (k : ℕ) (p : Pair) : Type 0 where
-  part : p.part.channel ≡ w.part
-  there : Has (pairs_on o (only w.part) table es z k) p
-  members : AreMembers zones w
-  places : HasPlaces (pairs_on o (only w.part) table es z) w.members have.row k
-  lane : channel k p ≡ member_at w (have.row (since is_same_pair (pairs_on o (only w.part) table es z) p k))
+  pub part : p.part.channel ≡ w.part
+  pub there : Has (pairs_on o (only w.part) table es z k) p
+  pub members : AreMembers zones w
+  pub places : HasPlaces (pairs_on o (only w.part) table es z) w.members have.row k
+  pub lane : channel k p ≡ member_at w (have.row (since is_same_pair (pairs_on o (only w.part) table es z) p k))
 
-in_zone : PortFacts → (o : Options) (table : Targets) (es : List MidiEvent) (zones : ℕ → List Zone) (channel : ℕ → ℕ → Pair → ℕ) →
+pub in_zone : PortFacts → (o : Options) (table : Targets) (es : List MidiEvent) (zones : ℕ → List Zone) (channel : ℕ → ℕ → Pair → ℕ) →
     IsMpe o table es zones channel → (z : ℕ) (q : Options) → Asked q (zones z) →
     (w : Zone) (have : HasZonePlan o table es z w (channel z)) (k : ℕ) (p : Pair) →
     zone_of p.part.channel (zones z) ≡ Some w → k ≤ length es → Has (pairs_on o (is_part o) table es z k) p →
@@ -155,8 +155,10 @@ planned_port f o table es zones channel b z options asked =
           let v : Zone = other.0 in
           let have : HasZonePlan o table es z w (channel z) = it.plans p.part.channel w found.1 in
           let its : HasZonePlan o table es z v (channel z) = it.plans q.part.channel v other.1 in
-          let i : InZone o table es z (zones z) (channel z) w have k p = in_zone f o table es zones channel b z options asked w have k p found.1 low h in
-          let j : InZone o table es z (zones z) (channel z) v its k q = in_zone f o table es zones channel b z options asked v its k q other.1 low g in
+          let i : InZone o table es z (zones z) (channel z) w have k p =
+          in_zone f o table es zones channel b z options asked w have k p found.1 low h in
+          let j : InZone o table es z (zones z) (channel z) v its k q =
+          in_zone f o table es zones channel b z options asked v its k q other.1 low g in
           let zp : ℕ → List Pair = pairs_on o (only w.part) table es z in
           let zq : ℕ → List Pair = pairs_on o (only v.part) table es z in
           let a : ℕ = have.row (since is_same_pair zp p k) in
@@ -174,7 +176,8 @@ planned_port f o table es zones channel b z options asked =
           let found = it.zoned k p h in
           let w : Zone = found.0 in
           let have : HasZonePlan o table es z w (channel z) = it.plans p.part.channel w found.1 in
-          let i : InZone o table es z (zones z) (channel z) w have k p = in_zone f o table es zones channel b z options asked w have k p found.1 low h in
+          let i : InZone o table es z (zones z) (channel z) w have k p =
+          in_zone f o table es zones channel b z options asked w have k p found.1 low h in
           let a : ℕ = have.row (since is_same_pair (pairs_on o (only w.part) table es z) p k) in
           subst (IsMember (zones z) p) (sym i.lane) (record {
             zone = w;

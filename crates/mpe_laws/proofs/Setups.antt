@@ -7,7 +7,7 @@ use Rattle.mt_base.specs.declared.event.Msg.{Msg}
 use Rattle.mt_base.specs.declared.event.Msg.TheVariants.{Control}
 use Rattle.mt_base.specs.Midi.{MidiEvent}
 use Rattle.midi_model.specs.Sysex.{Plays}
-use Rattle.midi_model.specs.Channel.{Channel, Selection, default_channel, controlled, apply, role, target}
+use Rattle.midi_model.specs.Channel.{Channel, Selection, EntryHigh, RpnLow, RpnHigh, ResetControllers, default_channel, controlled, apply, role, target}
 use Rattle.midi_model.specs.Zones.{master}
 use Rattle.midi_model.specs.Music.{Music, channel_at, asks, advance}
 use Rattle.midi_model.specs.MusicLaws.{IsSettled}
@@ -30,18 +30,22 @@ use Rattle.mpe_laws.proofs.Allowed.{AreMembers, Asked}
 -- ---- what holds of controllers on masters and members holds of the setup
 
 abbrev pub OfSettings : Options → List Zone → (Msg → Type 0) → Type 0
-OfSettings o zones P = (c n v : ℕ) → IsOfZone zones c → c < 16 → is_part o c ≡ true → n ≤ 127 → v ≤ 127 → P (Control c n v)
+OfSettings o zones P = (c n v : ℕ) → IsOfZone zones c → c < 16 → is_part o c ≡ true → n ≤ 127 → v ≤ 127 → (role n ≡ ResetControllers → ⊥) →
+    P (Control c n v)
 
 registered_hold : (P : Msg → Type 0) (o : Options) (zones : List Zone) → OfSettings o zones P → (c low v : ℕ) → IsOfZone zones c → c < 16 →
     is_part o c ≡ true → low ≤ 127 → v ≤ 127 → AllByRecursion P (registered c low v)
 registered_hold P o zones f c low v of fits part small value =
+    let high : role 101 ≡ ResetControllers → ⊥ = λ e. (let z : RpnHigh ≡ ResetControllers = e in cc) in
+    let small_byte : role 100 ≡ ResetControllers → ⊥ = λ e. (let z : RpnLow ≡ ResetControllers = e in cc) in
+    let entry : role 6 ≡ ResetControllers → ⊥ = λ e. (let z : EntryHigh ≡ ResetControllers = e in cc) in
     let closed : AllByRecursion P (Control c 101 127 ∷ Control c 100 127 ∷ []) =
-    (f c 101 127 of fits part (omega arith) (omega arith), (f c 100 127 of fits part (omega arith) (omega arith), tt)) in (
-      f c 101 0 of fits part (omega arith) (omega arith),
+    (f c 101 127 of fits part (omega arith) (omega arith) high, (f c 100 127 of fits part (omega arith) (omega arith) small_byte, tt)) in (
+      f c 101 0 of fits part (omega arith) (omega arith) high,
       (
-        f c 100 low of fits part (omega arith) small,
+        f c 100 low of fits part (omega arith) small small_byte,
         (
-          f c 6 v of fits part (omega arith) value,
+          f c 6 v of fits part (omega arith) value entry,
           closed,
         ),
       ),

@@ -66,7 +66,7 @@ of_master zones c z h = record { zone = z; of = ap (λ b. zone_of b zones) (its_
 
 setup_right : (o : Options) (zones : List Zone) → Asked o zones → o.range ≤ 127 → AllByRecursion (IsRight o zones) (zones_setup o.range zones)
 setup_right o zones asked range = setup_holds (IsRight o zones) o zones
-    (λ c n v of low part small value. ((omega (arith, low), small, value), (part, of))) asked range
+    (λ c n v of low part small value other. ((omega (arith, low), small, value), (part, of))) asked range
 
 -- ---- what a part's message causes
 

@@ -39,7 +39,7 @@ use Rattle.mpe_laws.proofs.Standing.{Laws}
 use Rattle.mpe_laws.proofs.Planning.{IsPlanned}
 use Rattle.mpe_laws.proofs.Allowed.{Asked}
 use Rattle.mpe_laws.proofs.Passing.{setup_of, passed_block}
-use Rattle.mpe_laws.proofs.Everywhere.{what_at, given_at, follows_at, source_is}
+use Rattle.mpe_laws.proofs.Everywhere.{what_at, quiet_settled, given_at, follows_at, source_is}
 use Rattle.mpe_laws.proofs.Opened.{zoned_if, zoned_to, played_to, Opened, opens, known_at, part_said, drum_said}
 use Rattle.mpe_laws.proofs.Setups.{setup_quiet}
 
@@ -217,9 +217,6 @@ block_quiet laws port o table zones asked k m x t track w block given (inr h) r 
 
 -- ---- at every position
 
-started_settled : IsSettled start.music
-started_settled = record { notes = λ t. refl; channels = refl }
-
 pub quiet_to : Laws → (o : Options) (table : Targets) (zones : List Zone) → Asked o zones → (runs : PortRuns) (ns : List Numbered) (last : ℕ) →
     IsPlanned o table zones runs ns last → Ascend 0 ns → (k : ℕ) → k ≤ last →
     QuietMasters zones (receive_all start (zoned_to o table zones runs ns k)).tuning
@@ -244,4 +241,4 @@ quiet_to laws o table zones asked runs ns last g rising (suc k) low =
         let music : r.music ≡ s.out = music_all start before ∙ sym (played_to o table zones runs ns rising k) in
         subst (λ (y : Receiver). QuietMasters zones y.tuning) (sym (all_receive start before block))
         (block_quiet laws runs.number o table zones asked (moment runs k) s.source s.out e.tick e.track e.what block given opened r music
-        (subst IsSettled (sym (music_all start before)) (settled_play laws.settle start.music before started_settled)) q)
+        (subst IsSettled (sym (music_all start before)) (settled_play laws.settle start.music before quiet_settled)) q)

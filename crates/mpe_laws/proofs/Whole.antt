@@ -8,13 +8,17 @@ use Rattle.midi_model.specs.ParameterLaws.{PutGivesTheValue}
 use Rattle.midi_model.specs.Merged.{merged}
 use Rattle.retune_model.specs.Table.{Scaling}
 use Rattle.retune_model.specs.Options.{Options, has_drums, keeps_drums, is_retuned}
-use Rattle.retune_model.specs.Ports.{Numbered, of_port, events_on, unnumbered, all_zero}
+use Rattle.retune_model.specs.Ports.{Numbered, of_port, events_on, unnumbered, all_zero, is_reset_at}
+use Rattle.retune_model.specs.PortNeed.{pairs_on}
+use Rattle.midi_model.specs.Music.{channel_at}
 use Rattle.retune_model.specs.PlaysTheSame.{plain_device, PlayTheSame, PlaysTheSameMusic, KeepsDrums, drum_events}
 use Rattle.retune_model.specs.Faults.{Targets, is_part}
 use Rattle.retune_model.specs.Pairs.{Pair}
 use Rattle.channel_model.specs.Laws.{ZonedPorts}
 use Rattle.channel_model.specs.BendOutput.{PortRuns, runs_on}
-use Rattle.channel_model.specs.MpeOutput.{Zone, Zoned, unzoned, mpe_output}
+use Rattle.channel_model.specs.MpeOutput.{Zone, Zoned, member_at, unzoned, mpe_output}
+use Rattle.channel_model.specs.Choice.{last_on, member_bend}
+use Rattle.channel_model.specs.Rows.{only}
 use Rattle.bend_laws.specs.Bent.{IsTuned}
 use Rattle.bend_laws.proofs.Ticks.{AreTimely}
 use Rattle.bend_laws.proofs.Outputs.{source_played}
@@ -23,7 +27,7 @@ use Rattle.bend_laws.proofs.Pitching.{PitchLaws}
 use Rattle.bend_laws.proofs.Drumless.{NoDrums, none_has}
 use Rattle.mpe_laws.specs.Positions.{zoned_at, FollowsAt}
 use Rattle.mpe_laws.specs.Sources.{on_port, IsMpe, IsOnZones}
-use Rattle.mpe_laws.specs.FileLaws.{PortsFollow, PortsAreTheirEvents, PortsAreTheirBlocks, ZonedPlaysTheSame, ZonedFilePlaysTheSame, ZonedIsPlayable, ZonedIsOnZones, PortsBegin, PortsAreOnTheirChannels, ZonedAddsFewBytes}
+use Rattle.mpe_laws.specs.FileLaws.{PortsFollow, PortsAreTheirEvents, PortsAreTheirBlocks, ZonedPlaysTheSame, ZonedFilePlaysTheSame, ZonedIsPlayable, ZonedIsOnZones, PortsBegin, PortsAreOnTheirChannels, MembersAreLeft, ZonedAddsFewBytes}
 use Rattle.mpe_laws.proofs.Standing.{Laws}
 use Rattle.mpe_laws.proofs.Planning.{IsPlanned}
 use Rattle.mpe_laws.proofs.Allowed.{Asked, allowed_zones, allowed_as}
@@ -32,6 +36,7 @@ use Rattle.mpe_laws.proofs.Played.{out_is}
 use Rattle.bend_laws.specs.Simulation.{planned_channels}
 use Rattle.bend_laws.proofs.Planned.{note_channels}
 use Rattle.mpe_laws.proofs.Placed.{channels_at}
+use Rattle.mpe_laws.proofs.Lasting.{Lane, left_at}
 use Rattle.mpe_laws.proofs.Sizes.{output_short}
 use Rattle.mpe_laws.proofs.Opened.{begun_is}
 use Rattle.mpe_laws.proofs.Ported.{PortFacts, planned_port}
@@ -136,6 +141,22 @@ port_channels f o table es zones channel b z k low =
     let runs : PortRuns = runs_on o table es channel z in
     subst (λ (s : Zoned). note_channels (on_port o es z) s.out.notes ≡ planned_channels (on_port o es z) table runs (of_port z es) k) (p.at k)
     (channels_at f.laws (on_port o es z) table (zones z) p.asked b.range runs (of_port z es) (length es) p.planned k low)
+
+pub port_left : Given → MembersAreLeft
+port_left f o table es zones channel b z c w of instant row plan k i low within =
+    let p : OnPort o table es zones channel z = on_port_of f o table es zones channel b z in
+    let l : Lane o (on_port o es z) table es zones channel z c w i = record {
+      facts = f.facts;
+      source = b;
+      asked = p.asked;
+      planned = p.planned;
+      of = of;
+      plan = record { instant = instant; row = row; plan = plan };
+      within = within;
+    } in
+    subst (λ (s : Zoned). (channel_at s.out (member_at w i)).bend
+    ≡ member_bend (last_on (is_reset_at (of_port z es)) (pairs_on o (only w.part) table es z) row i k)) (p.at k)
+    (left_at f.laws o (on_port o es z) table es zones channel z c w i l b.range k low)
 
 -- the music of a port
 port_music : Given → (o : Options) (table : Targets) (es : List MidiEvent) (zones : ℕ → List Zone) (channel : ℕ → ℕ → Pair → ℕ) →

@@ -43,7 +43,8 @@ pub record Follows (port : ℕ) (o : Options) (table : Targets) (zones : List Zo
 
 -- What is given of one event of the port: it is valid and has no fault; what sounds before and after it is there; a
 -- run keeps its member, and different pairs have different members.
-pub record IsGiven (port : ℕ) (o : Options) (table : Targets) (zones : List Zone) (k : Moment) (before : Music) (e : MidiEvent) : Type 0 where
+pub record IsGiven (port : ℕ) (o : Options) (table : Targets) (zones : List Zone) (k : Moment)
+    (before : Music) (e : MidiEvent) : Type 0 where
   pub valid : IsValidEvent e
   pub faultless : kind_in port o table e.tick before (step before e) false k.is e.what ≡ None
   pub held : SoundAmong port o table k.holds before.notes

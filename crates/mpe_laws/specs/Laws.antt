@@ -11,10 +11,12 @@ use Rattle.mpe_laws.specs.Follows.{Follows, IsGiven}
 
 -- once the setup stands, each event of the port with its block keeps the relation
 abbrev pub EventsKeepFollowing : Type 0
-EventsKeepFollowing = (port : ℕ) (o : Options) (table : Targets) (zones : List Zone) (k : Moment) (m x : Music) (e : MidiEvent) →
+EventsKeepFollowing = (port : ℕ) (o : Options) (table : Targets) (zones : List Zone) (k : Moment) (m x : Music)
+    (e : MidiEvent) →
     AreZones o zones → SetsUp o zones → Follows port o table zones k.old k.was m x →
     IsGiven port o table zones k m e →
-    Follows port o table zones k.new k.is (step m e) (play x (mpe_block port o table zones k.was true m x k.old k.new e))
+    Follows port o table zones k.new k.is (step m e)
+    (play x (mpe_block port o table zones k.was true m x k.old k.new e))
 
 -- What is asked of the zones holds of one zone: the setup sets it up, and its master and members are as asked.
 abbrev pub OneZoneIsSetUp : Type 0

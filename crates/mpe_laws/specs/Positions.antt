@@ -15,13 +15,16 @@ use Rattle.mpe_laws.specs.Follows.{Follows}
 -- both musics at a position, and whether the setup stands: an event of another port changes nothing
 abbrev pub zoned_next : Options → Targets → List Zone → PortRuns → ℕ → Zoned → Option MidiEvent → Zoned
 zoned_next o table zones runs k s None = s
-zoned_next o table zones runs k s (Some e) = next_zoned o table zones runs s (let n : Numbered = record { position = suc k; event = e } in n)
+zoned_next o table zones runs k s (Some e) = next_zoned o table zones runs s
+    (let n : Numbered = record { position = suc k; event = e } in n)
 
 abbrev pub zoned_at : Options → Targets → List Zone → PortRuns → List Numbered → ℕ → Zoned
 zoned_at o table zones runs ns zero = unzoned
-zoned_at o table zones runs ns (suc k) = zoned_next o table zones runs k (zoned_at o table zones runs ns k) (port_event ns (suc k))
+zoned_at o table zones runs ns (suc k) = zoned_next o table zones runs k (zoned_at o table zones runs ns k)
+    (port_event ns (suc k))
 
 -- before the setup nothing was played; from then on the output follows the source
-pub record FollowsAt (o : Options) (table : Targets) (zones : List Zone) (runs : PortRuns) (k : ℕ) (s : Zoned) : Type 0 where
+pub record FollowsAt (o : Options) (table : Targets) (zones : List Zone) (runs : PortRuns) (k : ℕ)
+    (s : Zoned) : Type 0 where
   pub before : s.begun ≡ false → (s.source ≡ quiet) × ((s.out ≡ quiet) × ((p : Pair) → Has (runs.pairs k) p → ⊥))
   pub after : s.begun ≡ true → Follows runs.number o table zones (runs.channel k) (runs.pairs k) s.source s.out

@@ -46,7 +46,8 @@ pub record HasZonePlan (o : Options) (table : Targets) (es : List MidiEvent) (z 
   pub plan : IsZonePlan o table es z zone instant row channel
 
 -- What a port has: allowed zones, among them one of each part that has a pair; and a plan of each zone.
-pub record IsZonedPort (o : Options) (table : Targets) (es : List MidiEvent) (z : ℕ) (zones : List Zone) (channel : ℕ → Pair → ℕ) : Type 0 where
+pub record IsZonedPort (o : Options) (table : Targets) (es : List MidiEvent) (z : ℕ) (zones : List Zone)
+    (channel : ℕ → Pair → ℕ) : Type 0 where
   pub allowed : AreAllowed o (keeps_drums o (events_on z es)) zones
   pub zoned : (k : ℕ) (p : Pair) → is_member is_same_pair (pairs_on o (is_part o) table es z k) p ≡ true →
       (zone : Zone) × (zone_of p.part.channel zones ≡ Some zone)

@@ -1,6 +1,6 @@
 use Rattle.mpe_laws.proofs.Standing.{Laws}
 use Rattle.mpe_laws.proofs.Ported.{PortFacts}
-use Rattle.mpe_laws.proofs.Whole.{Given, port_follows, port_source, port_out, port_begins, port_channels, same_file, whole_file, file_playable, file_zoned, file_short}
+use Rattle.mpe_laws.proofs.Whole.{Given, port_follows, port_source, port_out, port_begins, port_channels, port_left, same_file, whole_file, file_playable, file_zoned, file_short}
 use Rattle.mpe_laws.proofs.files.mpe_plays_the_same.Goals as goal
 
 pub returns : goal.returns
@@ -42,6 +42,7 @@ returns c =
       out = port_out all;
       begun = port_begins all;
       channels = port_channels all;
+      left = port_left all;
       same = same_file all;
       file = whole_file all;
       playable = file_playable all;
