@@ -1,28 +1,27 @@
 -- A used row of a port, from one position to the next.
-use Rattle.std.proofs.Common.{◌≡◌, ◌≤◌, ◌<◌, ◌⊎◌, ℕ, zero, suc, List, [], ◌∷◌, ◌++◌, Bool, true, false, cond, ◌&&◌, not, Option, Some, None, length, map, take, filter, refl, sym, ap, ◌∙◌, subst, nat_lt, arith, inl, inr}
+use Rattle.std.proofs.Common.{◌≡◌, ◌≤◌, ◌<◌, ◌⊎◌, ℕ, zero, suc, List, [], ◌∷◌, Bool, true, false, cond, ◌&&◌, not, Option, Some, None, length, map, take, refl, sym, ap, ◌∙◌, subst, nat_lt, arith, inl, inr}
 use Rattle.std.specs.Set.{is_member}
 use Rattle.std.proofs.lemmas.Bool.{cases_lt, both_ways, and_from, and_parts, or_cases, or_left, ltb-true, false_from_ne_true}
 use Rattle.std.proofs.lemmas.List.{length-map, length-set, get_or-map}
 use Rattle.mt_base.specs.Midi.{MidiEvent}
 use Rattle.midi_model.specs.Channel.{State, default_state}
 use Rattle.midi_model.specs.Bring.{bring}
-use Rattle.midi_model.specs.Music.{Music, play, step, quiet}
+use Rattle.midi_model.specs.Music.{play}
 use Rattle.midi_model.specs.Receiver.{Receiver, start, receive, receive_all, after}
 use Rattle.retune_model.specs.Options.{Options, restless}
-use Rattle.retune_model.specs.Ports.{port_at, of_port, events_on, unnumbered, music_at, is_reset_at}
+use Rattle.retune_model.specs.Ports.{port_at, of_port, events_on, music_at, is_reset_at}
 use Rattle.retune_model.specs.PortLaws.{MusicAtAPosition}
 use Rattle.retune_model.specs.Faults.{Targets, is_part, is_bend}
-use Rattle.retune_model.specs.Pairs.{Pair, is_same_pair, with_pair}
-use Rattle.retune_model.specs.Rests.{begun_at, pairs_at, IsAimedPort}
+use Rattle.retune_model.specs.Pairs.{Pair, is_same_pair}
+use Rattle.retune_model.specs.Rests.{begun_at, IsAimedPort}
 use Rattle.retune_model.specs.RestLaws.{OneRunBegins, ResetsEndAll, BegunIsThere, HeldOrBegun, HeldWasThere}
 use Rattle.retune_model.specs.RunLaws.{PairsAreTold}
 use Rattle.retune_model.specs.Runs.{begins}
 use Rattle.retune_model.specs.NeedLaws.{NeedHasRoom}
 use Rattle.retune_model.specs.FaultLaws.{SoundPortsAreAimed}
-use Rattle.retune_model.specs.PortNeed.{AreParts, pairs_on, IsNeedOf}
-use Rattle.retune_model.specs.SourceFaults.{IsSound}
+use Rattle.retune_model.specs.PortNeed.{pairs_on, IsNeedOf}
 use Rattle.channel_model.specs.Choice.{wanted, pair_on, from_state, setup_length, member_setup, TakesBest}
-use Rattle.plan_laws.specs.Placing.{Seen, nowhere, seen_at, Has, place_at, AreApart, HasPlaces, HasLeft, stay, or_kept, leave, clear, begun_on, begin_on, IsBestSeen}
+use Rattle.plan_laws.specs.Placing.{Seen, nowhere, seen_at, Has, place_at, AreApart, HasPlaces, stay, or_kept, leave, clear, begun_on, begin_on, IsBestSeen}
 use Rattle.plan_laws.specs.PlacingLaws.{AllAreNowhere, TellsLeaving, IsLeftAlone, OnlyBegins}
 use Rattle.plan_laws.specs.FromLaws.{member_state, member_from, BendIsLeftAlone, BendIsCleared, BendLeaves, RestsBeforeItLeaves, MemberIsLeftAlone, MemberIsCleared, MemberLeaves, MemberCosts}
 use Rattle.plan_laws.specs.Counting.{ComesAt, holds_after, NextIsTaken, PairsAreTaken, HoldingIsThere, PairsAreOwn}
@@ -443,3 +442,17 @@ module _ (kit : RowKit) (o : Options) (part : ℕ → Bool) (table : Targets) (e
   row_room row k e ss p instant of comes left begun none_has need =
       one_free kit.told sets row (from_on o part table es z row) k ss left.places
       (kit.room o part table es z (length ss) instant row k p need (kit.taken es k e comes).2 (only_begins row k ss p of left begun none_has).here)
+
+  pub row_has : (row : ℕ → ℕ) (k : ℕ) (ss : List Seen) (c : ℕ) (p : Pair) → IsRowAt o part table es z row k ss → (seen_at ss c).pair ≡ Some p
+      → Has (sets k) p × (place_at sets row k p ≡ c)
+  row_has row k ss c p is h = on_found kit.told (place_at sets row k) c (sets k) p (sym (is.places.on c (seen_within ss c p h)) ∙ h)
+
+  pub row_keeps : (row : ℕ → ℕ) (k : ℕ) (ss : List Seen) (c : ℕ) (p : Pair) → IsRowLeft o part table es z row k ss
+      → (seen_at ss c).pair ≡ Some p → Has (sets k) p × (place_at sets row k p ≡ c)
+  row_keeps row k ss c p left h = on_found kit.told (place_at sets row k) c (sets k) p
+      (stay_back (sets (suc k)) (pair_on sets row c k) p (sym (left.places.on c (seen_within ss c p h)) ∙ h)).0
+
+  pub row_begins : (row : ℕ → ℕ) (k : ℕ) (ss : List Seen) (p : Pair) → IsRowOf o part table es → IsRowLeft o part table es z row k ss
+      → begun_at o part table (port_at es z) (suc k) ≡ p ∷ [] → ((d : ℕ) → (seen_at ss d).pair ≡ Some p → ⊥)
+      → begins is_same_pair sets k p ≡ true
+  row_begins row k ss p of left begun none_has = (only_begins row k ss p of left begun none_has).here

@@ -1,7 +1,6 @@
 -- A used row of a port, or of a zone of it, position by position: which pair is on each place, and that each run got the best one.
 -- `part` says of which channels the pairs are, and `row b` is the place of the run that begins at position b.
 use Rattle.std.specs.Prelude.{◌≡◌, ◌<◌, ℕ, suc, List, [], ◌∷◌, Bool, true, false, ◌&&◌, nat_lt, if◌then◌else◌, Option, Some, None, length, map, take}
-use Rattle.std.specs.Set.{is_member}
 use Rattle.mt_base.specs.Midi.{MidiEvent}
 use Rattle.midi_model.specs.Channel.{State}
 use Rattle.midi_model.specs.Receiver.{after}
@@ -10,10 +9,11 @@ use Rattle.retune_model.specs.Ports.{port_at, of_port, events_on, is_reset_at}
 use Rattle.retune_model.specs.Faults.{Targets, is_part, is_bend}
 use Rattle.retune_model.specs.Pairs.{Pair, is_same_pair}
 use Rattle.retune_model.specs.Rests.{begun_at}
+use Rattle.retune_model.specs.Runs.{begins}
 use Rattle.retune_model.specs.PortNeed.{AreParts, pairs_on, IsNeedOf}
 use Rattle.retune_model.specs.SourceFaults.{IsSound}
 use Rattle.channel_model.specs.Choice.{wanted, from_state, setup_length, member_setup, TakesBest}
-use Rattle.plan_laws.specs.Placing.{Seen, seen_at, Has, HasPlaces, HasLeft, leave, clear, begin_on, IsBestSeen}
+use Rattle.plan_laws.specs.Placing.{Seen, seen_at, Has, place_at, HasPlaces, HasLeft, leave, clear, begin_on, IsBestSeen}
 use Rattle.plan_laws.specs.PlacingLaws.{AllAreNowhere}
 use Rattle.plan_laws.specs.FromLaws.{member_state, member_from}
 use Rattle.plan_laws.specs.Counting.{ComesAt, holds_after}
@@ -132,3 +132,25 @@ RowHasRoom = (o : Options) (part : ℕ → Bool) (table : Targets) (es : List Mi
     → begun_at o part table (port_at es z) (suc k) ≡ p ∷ [] → ((d : ℕ) → (seen_at ss d).pair ≡ Some p → ⊥)
     → IsNeedOf o part table es z (length ss) instant
     → (c : ℕ) × (c < length ss) × ((seen_at ss c).pair ≡ None)
+
+-- a pair on a place is there, and its run is on that place
+abbrev pub RowHasPair : Type 0
+RowHasPair = (o : Options) (part : ℕ → Bool) (table : Targets) (es : List MidiEvent) (z : ℕ) (row : ℕ
+    → ℕ) (k : ℕ) (ss : List Seen) (c : ℕ) (p : Pair)
+    → IsRowAt o part table es z row k ss → (seen_at ss c).pair ≡ Some p
+    → Has (pairs_on o part table es z k) p × (place_at (pairs_on o part table es z) row k p ≡ c)
+
+-- right after an event, it was there before it
+abbrev pub RowKeepsPair : Type 0
+RowKeepsPair = (o : Options) (part : ℕ → Bool) (table : Targets) (es : List MidiEvent) (z : ℕ) (row : ℕ
+    → ℕ) (k : ℕ) (ss : List Seen) (c : ℕ) (p : Pair)
+    → IsRowLeft o part table es z row k ss → (seen_at ss c).pair ≡ Some p
+    → Has (pairs_on o part table es z k) p × (place_at (pairs_on o part table es z) row k p ≡ c)
+
+-- the run of a pair begins with its note where it is on no place
+abbrev pub RowBegins : Type 0
+RowBegins = (o : Options) (part : ℕ → Bool) (table : Targets) (es : List MidiEvent) (z : ℕ) (row : ℕ
+    → ℕ) (k : ℕ) (ss : List Seen) (p : Pair)
+    → IsRowOf o part table es → IsRowLeft o part table es z row k ss
+    → begun_at o part table (port_at es z) (suc k) ≡ p ∷ [] → ((d : ℕ) → (seen_at ss d).pair ≡ Some p → ⊥)
+    → begins is_same_pair (pairs_on o part table es z) k p ≡ true

@@ -3,7 +3,11 @@
 #![tactic(auto)]
 
 mod counting;
+mod events;
 mod places;
+mod runs;
 
 pub use counting::{counting_laws, taken_laws};
+pub use events::event_laws;
 pub use places::{leaving_laws, placing_laws, row_laws};
+pub use runs::run_counts;

@@ -2,7 +2,7 @@
 
 ghost use Rattle.plan_laws.specs.PlacingLaws.{NoneAtFirst, LeavingFrees, ClearingFrees, NoneBegins, OneBeginsOn, BestIsTaken, NoneIsTaken, OneIsFree};
 ghost use Rattle.plan_laws.specs.FromLaws.{BendIsLeftAlone, BendIsCleared, BendLeaves, RestsBeforeItLeaves, HeldHolds, MemberIsLeftAlone, MemberIsCleared, MemberLeaves, MemberCosts};
-ghost use Rattle.plan_laws.specs.Rows.{RowAtFirst, RowIsOfParts, RowLeaves, RowIsCleared, RowStays, RowGoesOn, RowTakes, RowHasRoom};
+ghost use Rattle.plan_laws.specs.Rows.{RowAtFirst, RowIsOfParts, RowLeaves, RowIsCleared, RowStays, RowGoesOn, RowTakes, RowHasRoom, RowHasPair, RowKeepsPair, RowBegins};
 
 use crate::counting::{counting_laws, taken_laws};
 use retune_model::{
@@ -58,6 +58,9 @@ pub fn row_laws()
     ensures goes_on { RowGoesOn }
     ensures takes { RowTakes }
     ensures room { RowHasRoom }
+    ensures has { RowHasPair }
+    ensures keeps { RowKeepsPair }
+    ensures begins { RowBegins }
 {
     pair_laws();
     sound_sources();

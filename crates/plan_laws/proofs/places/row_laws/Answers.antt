@@ -1,4 +1,4 @@
-use Rattle.plan_laws.proofs.Rowing.{RowKit, row_first, row_parts, row_leaves, row_cleared, row_stays, row_goes_on, row_takes, row_room}
+use Rattle.plan_laws.proofs.Rowing.{RowKit, row_first, row_parts, row_leaves, row_cleared, row_stays, row_goes_on, row_takes, row_room, row_has, row_keeps, row_begins}
 use Rattle.plan_laws.proofs.places.row_laws.Goals as goal
 
 pub returns : goal.returns
@@ -35,4 +35,7 @@ returns c =
       goes_on = row_goes_on kit;
       takes = row_takes kit;
       room = row_room kit;
+      has = row_has kit;
+      keeps = row_keeps kit;
+      begins = row_begins kit;
     }
