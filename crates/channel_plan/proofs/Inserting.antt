@@ -1,7 +1,7 @@
 -- A pair put into a list at its place.
-use Rattle.std.proofs.Common.{◌≡◌, ◌≤◌, ◌<◌, ◌⊎◌, ℕ, Bool, true, false, ◌||◌, List, [], ◌∷◌, ◌++◌, length, map, drop, take, slice_index_or, refl, sym, ap, ◌∙◌, subst, suc, zero, cond, arith, inl, inr}
+use Rattle.std.proofs.Common.{◌≡◌, ◌≤◌, ◌<◌, ◌⊎◌, ℕ, Bool, true, false, ◌||◌, List, [], ◌∷◌, length, map, slice_index_or, refl, ap, suc, cond, arith, inl, inr}
 use Rattle.std.specs.List.{insert}
-use Rattle.std.proofs.lemmas.Bool.{cases_Bool, cond-true, cond-false, both_ways}
+use Rattle.std.proofs.lemmas.Bool.{both_ways}
 use Rattle.mt_base.specs.declared.pair.Pair.{Pair as Packed}
 use Rattle.retune_model.specs.Pairs.{Pair, is_before, is_same_pair, with_pair}
 use Rattle.lifetimes.specs.Views.{pair_of}

@@ -3,3 +3,9 @@ pub mod Putting
 pub mod Recasting
 pub mod Seen
 pub mod Finding
+pub mod Keeping
+pub mod BegunPairs
+pub mod Opened
+pub mod Surveyed
+pub mod Stayed
+pub mod Leaving

@@ -8,3 +8,6 @@ pub mod Layouts
 pub mod Passing
 pub mod Seeing
 pub mod Finding
+pub mod Tallies
+pub mod Surveys
+pub mod Staying

@@ -11,6 +11,10 @@ mod places;
 mod plan;
 mod refusing;
 mod rows;
+mod staying;
+mod survey;
+mod tallies;
+mod tally;
 
 pub use fault::{Instant, PlanFault, TooMany};
 pub use layout::Layout;

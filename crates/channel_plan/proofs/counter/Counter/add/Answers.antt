@@ -1,4 +1,4 @@
-use Rattle.std.proofs.Common.{◌≡◌, ◌≤◌, ◌<◌, ℕ, length, map, true, sym, ap, ◌∙◌, subst, refl, arith, inl, inr, slice_index_or}
+use Rattle.std.proofs.Common.{◌≡◌, ◌<◌, length, map, sym, ap, ◌∙◌, subst, refl, arith, inl, inr, slice_index_or}
 use Rattle.std.specs.List.{insert}
 use Rattle.lifetimes.specs.Views.{pair_of}
 use Rattle.channel_plan.specs.Counts.{place_in}
