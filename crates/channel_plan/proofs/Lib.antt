@@ -4,6 +4,8 @@ pub mod Recasting
 pub mod Seen
 pub mod Finding
 pub mod Keeping
+pub mod Noting
+pub mod Ported
 pub mod BegunPairs
 pub mod Opened
 pub mod Surveyed

@@ -10,4 +10,5 @@ pub mod Seeing
 pub mod Finding
 pub mod Tallies
 pub mod Surveys
+pub mod Surveyed
 pub mod Staying

@@ -1,16 +1,16 @@
 -- What a plan says of a source that is given one: what each port needs, and the channel of each note.
-use Rattle.std.specs.Prelude.{◌≡◌, ◌<◌, ◌≤◌, ◌+◌, ◌*◌, ◌↔◌, ℕ, zero, suc, pos, List, [], ◌∷◌, Bool, nat_eq, nat_lt, if◌then◌else◌, Option, Some, IsSome, option_map, unwrap_or, map, filter, length, take}
+use Rattle.std.specs.Prelude.{◌≡◌, ◌<◌, ◌≤◌, ◌+◌, ◌*◌, ◌↔◌, ℕ, zero, suc, pos, List, [], ◌∷◌, Bool, nat_eq, if◌then◌else◌, Some, IsSome, option_map, unwrap_or, map, filter, length, take}
 use Rattle.mt_base.specs.Midi.{MidiEvent}
 use Rattle.retune_model.specs.Options.{Options, Route, ByBend, ByMpe, bends_notes}
-use Rattle.retune_model.specs.Ports.{port_at, tick_to}
+use Rattle.retune_model.specs.Ports.{port_at, tick_to, events_on}
 use Rattle.retune_model.specs.PlaysTheSame.{begins_note}
 use Rattle.retune_model.specs.Faults.{Targets, is_part, is_bend}
 use Rattle.retune_model.specs.Pairs.{Pair, is_same_pair}
 use Rattle.retune_model.specs.Rests.{begun_at}
 use Rattle.retune_model.specs.Runs.{since}
 use Rattle.retune_model.specs.Places.{nth}
-use Rattle.retune_model.specs.PortNeed.{pairs_on, need_of, notes_on}
-use Rattle.retune_model.specs.Dump.{from_up}
+use Rattle.retune_model.specs.PortNeed.{pairs_on, need_of}
+use Rattle.retune_model.specs.Dump.{from_up, has_note_on}
 use Rattle.channel_model.specs.Choice.{beginning_at}
 use Rattle.channel_model.specs.Rows.{IsBendPlan, IsZonePlan, only, zones_on, zone_row, used_row, channel_by}
 use Rattle.channel_model.specs.MpeOutput.{Zone as ZoneOf}
@@ -26,9 +26,13 @@ instant_of es k = record { position = k; tick = tick_to es k }
 
 -- ---- ports
 
+-- whether some retuned part of a port has a note on
+abbrev pub is_noted : Options → List MidiEvent → ℕ → Bool
+is_noted o es z = has_note_on (is_part o) (events_on z es)
+
 -- the ports with a retuned note, ascending
 abbrev pub noted_ports : Options → List MidiEvent → List ℕ
-noted_ports o es = filter (λ z. nat_lt 0 (notes_on (is_part o) es z)) (from_up 0 256)
+noted_ports o es = filter (is_noted o es) (from_up 0 256)
 
 -- ---- on bend: what a port needs, the instant, and the pairs then
 
@@ -54,29 +58,6 @@ zone_told o table es z zone =
 abbrev pub zone_pairs_told : Options → Targets → List MidiEvent → ℕ → ZoneOf → List Pair
 zone_pairs_told o table es z zone = pairs_on o (only zone.part) table es z (zone_position o table es z zone)
 
--- ---- runs
-
--- Each key at its own pitch: so that no note has a bend, and the pairs are the parts themselves.
-abbrev pub unbent : Targets
-unbent k t = Some (record { lo = pos (3200000000000 * k); hi = pos (3200000000000 * k) })
-
-abbrev pub runs_by : Options → Targets → Targets
-runs_by o table = if bends_notes o.route then table else unbent
-
--- the pairs of a port whose runs are counted; on dump and live a pair is a part alone
-abbrev pub sets_on : Options → Targets → List MidiEvent → ℕ → ℕ → List Pair
-sets_on o table es z k = pairs_on o (is_part o) (runs_by o table) es z k
-
--- how many runs begin up to a position
-abbrev pub runs_to : (ℕ → List Pair) → ℕ → ℕ
-runs_to at zero = 0
-runs_to at (suc k) = runs_to at k + length (beginning_at at k)
-
--- the number of the run that begins at a position
-abbrev pub run_at : (ℕ → List Pair) → ℕ → ℕ
-run_at at zero = 0
-run_at at (suc k) = runs_to at k
-
 -- ---- notes
 
 -- the events that begin a retuned note, on any port
@@ -87,9 +68,41 @@ note_ons o es = filter (λ (e : MidiEvent). begins_note (is_part o) e.what) es
 abbrev pub notes_to : Options → List MidiEvent → ℕ → ℕ
 notes_to o es k = length (note_ons o (take k es))
 
+-- Each key at its own pitch. Where no note is bent, the pair of a note is its part, with the steps of this table: none.
+abbrev pub unbent : Targets
+unbent k t = Some (record { lo = pos (3200000000000 * k); hi = pos (3200000000000 * k) })
+
+abbrev pub targets_by : Options → Targets → Targets
+targets_by o table = if bends_notes o.route then table else unbent
+
 -- a note that begins at position k has this pair, on port z
 abbrev pub Begins : Options → Targets → List MidiEvent → ℕ → ℕ → Pair → Type 0
-Begins o table es z k p = begun_at o (is_part o) (runs_by o table) (port_at es z) k ≡ p ∷ []
+Begins o table es z k p = begun_at o (is_part o) (targets_by o table) (port_at es z) k ≡ p ∷ []
+
+-- ---- runs
+
+-- how many runs begin up to a position
+abbrev pub runs_to : (ℕ → List Pair) → ℕ → ℕ
+runs_to at zero = 0
+runs_to at (suc k) = runs_to at k + length (beginning_at at k)
+
+-- On a port: where notes are bent, those of its pairs; else each note is a run of its own.
+abbrev pub runs_on : Options → Targets → List MidiEvent → ℕ → ℕ → ℕ
+runs_on o table es z k =
+    if bends_notes o.route then runs_to (pairs_on o (is_part o) table es z) k else length (note_ons o (events_on z (take k es)))
+
+-- the position at which the run of a note begins that begins at position k
+abbrev pub run_from : Options → Targets → List MidiEvent → ℕ → ℕ → Pair → ℕ
+run_from o table es z k p = if bends_notes o.route then since is_same_pair (pairs_on o (is_part o) table es z) p k else k
+
+-- the number of the run that begins at a position: how many began before
+abbrev pub number_at : (ℕ → ℕ) → ℕ → ℕ
+number_at count zero = 0
+number_at count (suc k) = count k
+
+-- the number of the run of a note
+abbrev pub run_told : Options → Targets → List MidiEvent → ℕ → ℕ → Pair → ℕ
+run_told o table es z k p = number_at (runs_on o table es z) (run_from o table es z k p)
 
 -- ---- channels
 
@@ -119,18 +132,21 @@ zone_channel o table es plan z zone k p = channel_of o es plan (zone_row zone) (
 
 -- On bend the channels of a port are those of its plan, and each note has that of its run.
 pub record GivesByBend (o : Options) (allowed : ℕ → Bool) (table : Targets) (es : List MidiEvent) (plan : Plan) (z : ℕ) : Type 0 where
-  pub chosen : IsBendPlan o allowed table es z (need_told o table es z) (position_told o table es z) (row_of o es plan (bend_row o allowed table es z)) (bend_channel o allowed table es plan z)
+  pub chosen : IsBendPlan o allowed table es z (need_told o table es z) (position_told o table es z)
+      (row_of o es plan (bend_row o allowed table es z)) (bend_channel o allowed table es plan z)
   pub given : (k : ℕ) (p : Pair) → Begins o table es z k p → channel_in plan (notes_to o es k) ≡ Some (bend_channel o allowed table es plan z k p)
 
 -- On MPE the channels of a part are members of its zone, by the zone's plan.
 pub record GivesInZone (o : Options) (table : Targets) (es : List MidiEvent) (plan : Plan) (z : ℕ) (zone : ZoneOf) : Type 0 where
   pub chosen : IsZonePlan o table es z zone (zone_position o table es z zone) (row_of o es plan (zone_row zone)) (zone_channel o table es plan z zone)
-  pub given : (k : ℕ) (p : Pair) → p.part.channel ≡ zone.part → Begins o table es z k p → channel_in plan (notes_to o es k) ≡ Some (zone_channel o table es plan z zone k p)
+  pub given : (k : ℕ) (p : Pair) → p.part.channel ≡ zone.part → Begins o table es z k p
+      → channel_in plan (notes_to o es k) ≡ Some (zone_channel o table es plan z zone k p)
 
 -- On dump and live each note keeps its own channel.
 abbrev pub GivesChannels : Route → Options → (ℕ → Bool) → Targets → List MidiEvent → Plan → Type 0
 GivesChannels ByBend o allowed table es plan = (z : ℕ) → GivesByBend o allowed table es plan z
-GivesChannels ByMpe o allowed table es plan = (z i : ℕ) (zone : ZoneOf) → nth i (zones_on o table es z) ≡ Some zone → GivesInZone o table es plan z zone
+GivesChannels ByMpe o allowed table es plan =
+    (z i : ℕ) (zone : ZoneOf) → nth i (zones_on o table es z) ≡ Some zone → GivesInZone o table es plan z zone
 GivesChannels _ o allowed table es plan = (z k : ℕ) (p : Pair) → Begins o table es z k p → channel_in plan (notes_to o es k) ≡ Some p.part.channel
 
 -- ---- the plan
@@ -147,11 +163,12 @@ pub record IsPlan (o : Options) (allowed : ℕ → Bool) (table : Targets) (es :
   pub instant : (z : ℕ) → instant_in plan z ≡ instant_of es (position_told o table es z)
   pub witness : (z : ℕ) → map pair_of (witness_in plan z) ≡ pairs_told o table es z
   pub zones : (z i : ℕ) → zone_in plan z i ≡ option_map (zone_told o table es z) (nth i (zones_told o.route o table es z))
-  pub zone_pairs : (z i : ℕ) → map pair_of (zone_pairs_in plan z i) ≡ unwrap_or (option_map (zone_pairs_told o table es z) (nth i (zones_told o.route o table es z))) []
+  pub zone_pairs : (z i : ℕ) → map pair_of (zone_pairs_in plan z i)
+      ≡ unwrap_or (option_map (zone_pairs_told o table es z) (nth i (zones_told o.route o table es z))) []
   pub used : (z : ℕ) → o.route ≡ ByBend → used_in plan z ≡ bend_row o allowed table es z
   pub channels : GivesChannels o.route o allowed table es plan
   -- notes count from 1
   pub notes : (n : ℕ) → IsSome (channel_in plan n) ↔ ((0 < n) × (n ≤ length (note_ons o es)))
   -- runs count from 0, in the order in which they begin on the port
-  pub runs : (z k : ℕ) (p : Pair) → Begins o table es z k p → run_in plan (notes_to o es k) ≡ Some (run_at (sets_on o table es z) (since is_same_pair (sets_on o table es z) p k))
-  pub run_count : (z : ℕ) → run_count_in plan z ≡ runs_to (sets_on o table es z) (length es)
+  pub runs : (z k : ℕ) (p : Pair) → Begins o table es z k p → run_in plan (notes_to o es k) ≡ Some (run_told o table es z k p)
+  pub run_count : (z : ℕ) → run_count_in plan z ≡ runs_on o table es z (length es)

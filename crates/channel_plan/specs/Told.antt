@@ -1,7 +1,6 @@
 -- What a plan, as the program keeps it, tells.
-use Rattle.std.specs.Prelude.{◌≡◌, ℕ, zero, suc, List, [], ◌∷◌, Bool, nat_eq, if◌then◌else◌, Option, Some, None, map, slice_get}
+use Rattle.std.specs.Prelude.{◌≡◌, ℕ, zero, suc, List, [], ◌∷◌, nat_eq, if◌then◌else◌, Option, Some, None, slice_get}
 use Rattle.mt_base.specs.declared.pair.Pair.{Pair}
-use Rattle.retune_model.specs.Places.{nth}
 use Rattle.channel_plan.specs.declared.fault.Instant.{Instant}
 use Rattle.channel_plan.specs.declared.plan.Zone.{Zone}
 use Rattle.channel_plan.specs.declared.plan.ZonePlan.{ZonePlan}

@@ -9,6 +9,7 @@ mod layout;
 mod needs;
 mod places;
 mod plan;
+mod planning;
 mod refusing;
 mod rows;
 mod staying;

@@ -21,7 +21,7 @@ use retune_model::{fewest_channels, need_laws};
 use std::alloc::Global;
 
 /// The first of some channels, so many at most.
-fn first_channels(channels: &[Channel], count: usize) -> Row
+pub(crate) fn first_channels(channels: &[Channel], count: usize) -> Row
     requires { count ≤ 16 }
     ensures { result.items ≡ take count channels.now }
 {
@@ -56,6 +56,8 @@ pub(crate) fn bend_port(
     ensures fault { (o : Options) (allowed : ℕ → Bool) (table : Targets) (es : List MidiEvent)
         → row.now.items ≡ allowed_row o allowed → CountsOf o (is_part o) table es port counter.now
         → IfErr result (IsBendFault o allowed table es port) }
+    ensures zones { IfOk result (λ p. p.zones.items ≡ []) }
+    ensures begun { IfOk result (λ p. p.runs ≡ 0) }
 {
     need_laws();
     fewest_channels();

@@ -3,7 +3,6 @@ ghost use Rattle.channel_plan.specs.Told.{port_in, or_of, recast_note, recast_no
 
 use crate::fault::Instant;
 use crate::rows::Row;
-use arrayvec::ArrayVec;
 use mt_base::{Channel, Pair};
 
 /// A zone of a port (MPE 1.0): its part, and how many members it has.
@@ -53,7 +52,7 @@ pub(crate) struct Given {
 #[derive(Debug, Drop)]
 pub struct Plan {
     /// The ports with a retuned note, ascending, and what is planned for each.
-    pub(crate) numbers: ArrayVec<u8, 4>,
+    pub(crate) numbers: Vec<u8>,
     pub(crate) ports: Vec<PortPlan>,
     /// Of each retuned note, in the order of their note ons: its port and channel, and the number of its run.
     pub(crate) given: Vec<Given>,
@@ -61,7 +60,7 @@ pub struct Plan {
 }
 
 /// What is planned for a port of this number.
-fn find_port(ports: &[PortPlan], number: u8) -> Option<&PortPlan>
+pub(crate) fn find_port(ports: &[PortPlan], number: u8) -> Option<&PortPlan>
     ensures { option_copied result ≡ port_in ports.now number }
 {
     match ports {

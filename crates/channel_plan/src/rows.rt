@@ -1,4 +1,5 @@
-ghost use Rattle.std.specs.Prelude.{◌≡◌, ◌≤◌, [], ◌∷◌, IfSome, IfNone};
+ghost use Rattle.std.specs.Prelude.{◌≡◌, ◌≤◌, [], ◌∷◌, filter, IfSome, IfNone};
+ghost use Rattle.retune_model.specs.Dump.{from_up};
 ghost use Rattle.channel_model.specs.Rows.{allowed_row};
 ghost use Rattle.channel_model.specs.MpeOutput.{Zone as ZoneOf, member_at, members_from, lower_allowed, upper_allowed};
 ghost use Rattle.lifetimes.specs.Views.{options_of};
@@ -17,6 +18,22 @@ fn allows(allowed: u16, number: u8) -> bool
     ensures { result ≡ is_allowed allowed number }
 {
     (allowed >> number) & 1 == 1
+}
+
+/// The channels of a mask, ascending.
+#[tactic(auto, using(crate::proofs::Putting::channel_put, crate::proofs::Putting::channel_passed))]
+pub(crate) fn channels_of(mask: u16) -> Row
+    ensures { result.items ≡ filter (is_allowed mask) (from_up 0 16) }
+{
+    let mut row = ArrayVec::new();
+    for number in 0..16u8 {
+        if allows(mask, number) {
+            if let Some(channel) = Channel::new(number) {
+                row.push(channel);
+            }
+        }
+    }
+    row
 }
 
 /// The channels of a mask, ascending, without channel 10 where drums are kept.

@@ -1,4 +1,4 @@
-use Rattle.std.proofs.Common.{◌+◌, ◌<◌, length, slice_set, arith, sym, ◌∙◌}
+use Rattle.std.proofs.Common.{arith, ◌∙◌}
 use Rattle.std.proofs.lemmas.List.{length-set}
 use Rattle.channel_plan.proofs.Recasting.{one_given}
 use Rattle.channel_plan.proofs.plan.recast_each.Goals as goal

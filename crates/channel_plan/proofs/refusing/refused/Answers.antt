@@ -1,4 +1,4 @@
-use Rattle.std.proofs.Common.{◌≡◌, ◌+◌, ℕ, suc, take, map, sym, ap, ◌∙◌, refl, arith}
+use Rattle.std.proofs.Common.{◌≡◌, ◌+◌, suc, take, map, sym, ap, ◌∙◌, refl, arith}
 use Rattle.std.proofs.lemmas.List.{take-map}
 use Rattle.lifetimes.specs.Views.{pair_of}
 use Rattle.channel_plan.proofs.refusing.refused.Goals as goal
