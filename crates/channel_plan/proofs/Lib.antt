@@ -2,6 +2,7 @@ pub mod Inserting
 pub mod Putting
 pub mod Recasting
 pub mod Seen
+pub mod Taking
 pub mod Finding
 pub mod Keeping
 pub mod Noting
@@ -11,3 +12,4 @@ pub mod Opened
 pub mod Surveyed
 pub mod Stayed
 pub mod Leaving
+pub mod Each

@@ -7,6 +7,7 @@ pub mod Masks
 pub mod Layouts
 pub mod Passing
 pub mod Seeing
+pub mod Stepping
 pub mod Finding
 pub mod Tallies
 pub mod Surveys

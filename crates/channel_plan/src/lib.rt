@@ -11,6 +11,7 @@ mod places;
 mod plan;
 mod planning;
 mod refusing;
+mod rowing;
 mod rows;
 mod staying;
 mod survey;

@@ -1,21 +1,22 @@
-ghost use Rattle.std.specs.Prelude.{◌≡◌, ◌<◌, List, true, length, map, set};
+ghost use Rattle.std.specs.Prelude.{◌≡◌, ◌<◌, ℕ, List, true, false, Some, length, map, set, IfSome, IfNone, IsTrue, ◌↔◌};
 ghost use Rattle.mt_base.specs.Midi.{MidiEvent};
 ghost use Rattle.retune_model.specs.Options.{bends_notes};
 ghost use Rattle.retune_model.specs.Faults.{is_part};
 ghost use Rattle.receiver.specs.State.{state_of};
-ghost use Rattle.lifetimes.specs.Views.{pair_of};
+ghost use Rattle.lifetimes.specs.Views.{options_of, pair_of};
 ghost use Rattle.lifetimes.specs.Stands.{Stands, asked, table_in};
 ghost use Rattle.lifetimes.specs.Told.{is_held, is_sounding};
-ghost use Rattle.plan_laws.specs.Placing.{leave, clear, begun_on, begin_on};
+ghost use Rattle.plan_laws.specs.Placing.{seen_at, leave, clear, begun_on, begin_on};
 ghost use Rattle.plan_laws.specs.FromLaws.{member_state};
-ghost use Rattle.plan_laws.specs.Rows.{needed, leaves_by, keep};
-ghost use Rattle.channel_plan.specs.Seeing.{seen, all_seen, IsPartOn, ArePartsOn};
+ghost use Rattle.plan_laws.specs.Rows.{needed, leaves_by, keeps_before, keep};
+ghost use Rattle.channel_plan.specs.Seeing.{seen, all_seen, runs_in, IsPartOn, ArePartsOn, IsKeptOn, AreKeptOn};
 
 use crate::choice::Place;
+use crate::counter::stays;
 use key_pitch::Aims;
-use lifetimes::{Parts, Route};
+use lifetimes::{Options, Parts, Route};
 use mt_base::Pair;
-use receiver::ChannelState;
+use receiver::{ChannelState, Ends};
 
 /// The state of a member of a zone that has the bend of a pair.
 fn member_of(pair: &Pair) -> ChannelState
@@ -31,7 +32,8 @@ pub(crate) fn needed<T: Aims>(parts: &Parts<T>, pair: &Pair) -> ChannelState
     requires bends { bends_notes (asked parts.now).route ≡ true }
     ensures { (es : List MidiEvent) → Stands (T.table (table_in parts.now)) parts.now es
         → is_part (asked parts.now) (pair.now.part.channel) ≡ true
-        → state_of result ≡ needed (asked parts.now) (T.table (table_in parts.now)) es (pair_of pair.now) }
+        → state_of result ≡ needed (asked parts.now) (T.table (table_in parts.now)) es
+        (pair_of pair.now) }
 {
     let options = parts.options();
     if options.route == Route::Bend && !(options.keep_drums && pair.part.channel.number() == 9) {
@@ -41,18 +43,29 @@ pub(crate) fn needed<T: Aims>(parts: &Parts<T>, pair: &Pair) -> ChannelState
     }
 }
 
-/// Frees a place whose pair is gone.
-fn leave_one<T: Aims>(place: &mut Place, parts: &Parts<T>, position: u32)
+/// Whether the state in which a pair leaves its channel is kept before the event at which it does:
+/// on bend, where notes rest.
+pub(crate) fn keeps_before(options: &Options) -> bool
+    ensures { result ≡ keeps_before (options_of options.now) }
+{
+    options.route == Route::Bend && options.tail > 0
+}
+
+/// Frees a place whose pair is gone. Where notes don't rest, it can be gone only where a note of
+/// its channel ended.
+fn leave_one<T: Aims>(place: &mut Place, parts: &Parts<T>, ended: &Ends, rests: bool, position: u32)
     requires bends { bends_notes (asked parts.now).route ≡ true }
-    ensures { (es : List MidiEvent) → Stands (T.table (table_in parts.now)) parts.now es
+    ensures seen { (es : List MidiEvent) → Stands (T.table (table_in parts.now)) parts.now es
         → IsPartOn (asked parts.now) (seen place.old)
+        → (rests ≡ false → IsKeptOn ended.now (is_held (asked parts.now)
+        (T.table (table_in parts.now)) es) (seen place.old))
         → seen place.new ≡ leave (is_held (asked parts.now) (T.table (table_in parts.now)) es)
         (leaves_by (asked parts.now) (T.table (table_in parts.now)) es) position (seen place.old) }
+    ensures run { place.new.run ≡ place.old.run }
 {
     if let Some(pair) = place.pair {
-        if !parts.holds(&pair) {
-            let options = parts.options();
-            if !(options.route == Route::Bend && options.tail > 0) {
+        if !stays(parts, ended, rests, &pair) {
+            if !keeps_before(&parts.options()) {
                 place.left = needed(parts, &pair);
             }
             place.pair = None;
@@ -64,10 +77,11 @@ fn leave_one<T: Aims>(place: &mut Place, parts: &Parts<T>, position: u32)
 /// Keeps the state of a place whose pair only rests, since the rest may run out at the next event.
 fn keep_one<T: Aims>(place: &mut Place, parts: &Parts<T>)
     requires bends { bends_notes (asked parts.now).route ≡ true }
-    ensures { (es : List MidiEvent) → Stands (T.table (table_in parts.now)) parts.now es
+    ensures seen { (es : List MidiEvent) → Stands (T.table (table_in parts.now)) parts.now es
         → IsPartOn (asked parts.now) (seen place.old)
         → seen place.new ≡ keep (is_sounding (asked parts.now) (T.table (table_in parts.now)) es)
         (needed (asked parts.now) (T.table (table_in parts.now)) es) (seen place.old) }
+    ensures run { place.new.run ≡ place.old.run }
 {
     if let Some(pair) = place.pair {
         if !parts.sounds(&pair) {
@@ -78,7 +92,8 @@ fn keep_one<T: Aims>(place: &mut Place, parts: &Parts<T>)
 
 /// Frees a place at a reset of its port.
 fn clear_one(place: &mut Place, position: u32)
-    ensures { seen place.new ≡ clear position (seen place.old) }
+    ensures seen { seen place.new ≡ clear position (seen place.old) }
+    ensures run { place.new.run ≡ place.old.run }
 {
     if place.pair.is_some() {
         place.pair = None;
@@ -88,16 +103,27 @@ fn clear_one(place: &mut Place, position: u32)
 }
 
 /// Frees the places whose pairs are gone.
-pub(crate) fn leave_all<T: Aims>(places: &mut [Place], parts: &Parts<T>, position: u32)
+pub(crate) fn leave_all<T: Aims>(
+    places: &mut [Place],
+    parts: &Parts<T>,
+    ended: &Ends,
+    rests: bool,
+    position: u32,
+)
     requires bends { bends_notes (asked parts.now).route ≡ true }
-    ensures { (es : List MidiEvent) → Stands (T.table (table_in parts.now)) parts.now es
+    ensures seen { (es : List MidiEvent) → Stands (T.table (table_in parts.now)) parts.now es
         → ArePartsOn (asked parts.now) (all_seen places.old)
-        → all_seen places.new ≡ map (leave (is_held (asked parts.now) (T.table (table_in parts.now)) es)
-        (leaves_by (asked parts.now) (T.table (table_in parts.now)) es) position) (all_seen places.old) }
+        → (rests ≡ false → AreKeptOn ended.now (is_held (asked parts.now)
+        (T.table (table_in parts.now)) es) (all_seen places.old))
+        → all_seen places.new
+        ≡ map (leave (is_held (asked parts.now) (T.table (table_in parts.now)) es)
+        (leaves_by (asked parts.now) (T.table (table_in parts.now)) es) position)
+        (all_seen places.old) }
+    ensures runs { runs_in places.new ≡ runs_in places.old }
 {
     let mut place = 0;
     while place < places.len() {
-        leave_one(&mut places[place], parts, position);
+        leave_one(&mut places[place], parts, ended, rests, position);
         place += 1;
     }
 }
@@ -105,10 +131,12 @@ pub(crate) fn leave_all<T: Aims>(places: &mut [Place], parts: &Parts<T>, positio
 /// Keeps the states of the places whose pairs only rest.
 pub(crate) fn keep_all<T: Aims>(places: &mut [Place], parts: &Parts<T>)
     requires bends { bends_notes (asked parts.now).route ≡ true }
-    ensures { (es : List MidiEvent) → Stands (T.table (table_in parts.now)) parts.now es
+    ensures seen { (es : List MidiEvent) → Stands (T.table (table_in parts.now)) parts.now es
         → ArePartsOn (asked parts.now) (all_seen places.old)
-        → all_seen places.new ≡ map (keep (is_sounding (asked parts.now) (T.table (table_in parts.now)) es)
+        → all_seen places.new
+        ≡ map (keep (is_sounding (asked parts.now) (T.table (table_in parts.now)) es)
         (needed (asked parts.now) (T.table (table_in parts.now)) es)) (all_seen places.old) }
+    ensures runs { runs_in places.new ≡ runs_in places.old }
 {
     let mut place = 0;
     while place < places.len() {
@@ -119,7 +147,8 @@ pub(crate) fn keep_all<T: Aims>(places: &mut [Place], parts: &Parts<T>)
 
 /// Frees all places at a reset of their port.
 pub(crate) fn clear_all(places: &mut [Place], position: u32)
-    ensures { all_seen places.new ≡ map (clear position) (all_seen places.old) }
+    ensures seen { all_seen places.new ≡ map (clear position) (all_seen places.old) }
+    ensures runs { runs_in places.new ≡ runs_in places.old }
 {
     let mut place = 0;
     while place < places.len() {
@@ -141,7 +170,35 @@ fn begin_one(place: &mut Place, pair: &Pair, run: u32)
 pub(crate) fn begin(places: &mut [Place], place: usize, pair: &Pair, run: u32)
     requires { place < length places.old }
     ensures seen { all_seen places.new ≡ begin_on (all_seen places.old) place (pair_of pair.now) }
-    ensures runs { map (λ p. p.run) places.new ≡ set (map (λ p. p.run) places.old) place run }
+    ensures runs { runs_in places.new ≡ set (runs_in places.old) place run }
 {
     begin_one(&mut places[place], pair, run);
+}
+
+/// Whether a place has a pair.
+fn has(place: &Place, pair: &Pair) -> bool
+    ensures { IsTrue result ↔ ((seen place.now).pair ≡ Some (pair_of pair.now)) }
+{
+    match place.pair {
+        Some(there) => there == *pair,
+        None => false,
+    }
+}
+
+/// The place that has a pair. None where none has it.
+pub(crate) fn place_of(places: &[Place], pair: &Pair) -> Option<usize>
+    ensures within { IfSome result (λ c. c < length places.now) }
+    ensures some { IfSome result (λ c. (seen_at (all_seen places.now) c).pair
+        ≡ Some (pair_of pair.now)) }
+    ensures none { IfNone result ((c : ℕ) → (seen_at (all_seen places.now) c).pair
+        ≡ Some (pair_of pair.now) → ⊥) }
+{
+    let mut place = 0;
+    while place < places.len() {
+        if has(&places[place], pair) {
+            return Some(place);
+        }
+        place += 1;
+    }
+    None
 }
