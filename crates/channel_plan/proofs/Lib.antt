@@ -13,3 +13,8 @@ pub mod Surveyed
 pub mod Stayed
 pub mod Leaving
 pub mod Each
+pub mod Heading
+pub mod Ending
+pub mod Served
+pub mod Beginning
+pub mod Goes

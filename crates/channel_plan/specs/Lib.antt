@@ -11,5 +11,8 @@ pub mod Stepping
 pub mod Finding
 pub mod Tallies
 pub mod Surveys
+pub mod Giving
 pub mod Surveyed
 pub mod Staying
+pub mod Serving
+pub mod Heads

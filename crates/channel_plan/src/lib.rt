@@ -5,14 +5,17 @@
 mod choice;
 mod counter;
 mod fault;
+mod giving;
 mod layout;
 mod needs;
 mod places;
 mod plan;
 mod planning;
 mod refusing;
+mod rowed;
 mod rowing;
 mod rows;
+mod serving;
 mod staying;
 mod survey;
 mod tallies;
