@@ -10,6 +10,7 @@ pub mod Ported
 pub mod BegunPairs
 pub mod Opened
 pub mod Surveyed
+pub mod Composing
 pub mod Stayed
 pub mod Leaving
 pub mod Each

@@ -2,6 +2,7 @@
 //! and a bend at once, or why a source needs more than there may be.
 #![tactic(auto)]
 
+mod build;
 mod choice;
 mod counter;
 mod fault;
