@@ -21,6 +21,8 @@ mod staying;
 mod survey;
 mod tallies;
 mod tally;
+#[cfg(test)]
+mod tests;
 
 pub use fault::{Instant, PlanFault, TooMany};
 pub use layout::Layout;
