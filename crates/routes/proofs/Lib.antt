@@ -1,12 +1,12 @@
-mod Puts
+pub mod Puts
 mod Dealt
 mod Distributes
-mod Premises
+pub mod Premises
 mod Bytes
-mod Sizes
+pub mod Sizes
 mod Same
 mod Blocks
 mod Lives
 mod States
-mod Channels
+pub mod Channels
 mod Passing

@@ -36,7 +36,7 @@ most-append [] ys = omega arith
 most-append (x ∷ xs) ys = omega (arith, most-append xs ys)
 
 -- the most bytes that events take, in whichever track
-abbrev all_most : List MidiEvent → ℕ
+abbrev pub all_most : List MidiEvent → ℕ
 all_most [] = 0
 all_most (e ∷ es) = most_bytes e.what + all_most es
 
@@ -45,7 +45,7 @@ all_most-append [] ys = omega arith
 all_most-append (x ∷ xs) ys = omega (arith, all_most-append xs ys)
 
 -- the most bytes that the events of one track take
-abbrev most_in : ℕ → List MidiEvent → ℕ
+abbrev pub most_in : ℕ → List MidiEvent → ℕ
 most_in t es = most_of_track (events_in t es)
 
 most_in-append : (t : ℕ) (xs ys : List MidiEvent) → most_in t (xs ++ ys) ≡ most_in t xs + most_in t ys
@@ -63,7 +63,7 @@ most_within t (e ∷ es) = elim (cases_Bool (eqb e.track t)) [
 
 -- ---- groups
 
-abbrev group_most : List Group → ℕ
+abbrev pub group_most : List Group → ℕ
 group_most gs = all_most (all_events gs)
 
 group_most-append : (xs ys : List Group) → group_most (xs ++ ys) ≡ group_most xs + group_most ys
@@ -77,10 +77,10 @@ group_most-append (x ∷ xs) ys = omega (
 )
 
 -- A setup of at most one dump of at most 407 bytes, and of selections on at most 16 channels.
-record IsShortSetup (s : Setup) : Type 0 where
-  one_dump : length s.dumps ≤ 1
-  dumps : AllByRecursion (λ b. length b ≤ 407) s.dumps
-  channels : length s.channels ≤ 16
+pub record IsShortSetup (s : Setup) : Type 0 where
+  pub one_dump : length s.dumps ≤ 1
+  pub dumps : AllByRecursion (λ b. length b ≤ 407) s.dumps
+  pub channels : length s.channels ≤ 16
 
 sends_most : (t track : ℕ) (bs : List (List ℕ)) → AllByRecursion (λ b. length b ≤ 407) bs → group_most (sends t track bs) ≤ length bs * 416
 sends_most t track [] h = omega arith
@@ -98,7 +98,7 @@ setup_most s e h =
     omega (arith, dumps, selections, both, h.one_dump, h.channels)
 
 -- at one event there is one setup at most
-dump_most : (s : Setup) (b : Bool) (e : MidiEvent) (d : Doing) → IsShortSetup s
+pub dump_most : (s : Setup) (b : Bool) (e : MidiEvent) (d : Doing) → IsShortSetup s
     → group_most (dump_before s b e d) + group_most (dump_behind s b e d) ≤ 976
 dump_most s true e (Plays msg) h = omega arith
 dump_most s false e (Plays msg) h = omega (arith, setup_most s e h)
@@ -135,13 +135,13 @@ live_most l s e Nothing h few = omega (arith, dump_most l.setup s.begun e Nothin
 
 -- ---- blocks
 
-block_most : (t : ℕ) (b : Block) → group_most b.before + group_most b.behind ≤ 1600 → most_in t (blocks.written b) ≤ most_in t (b.event ∷ []) + 1600
+pub block_most : (t : ℕ) (b : Block) → group_most b.before + group_most b.behind ≤ 1600 → most_in t (blocks.written b) ≤ most_in t (b.event ∷ []) + 1600
 block_most t b few =
     let one = most_in-append t (all_events b.before) (b.event ∷ all_events b.behind) in
     let two = most_in-append t (b.event ∷ []) (all_events b.behind) in
     omega (arith, one, two, few, most_within t (all_events b.before), most_within t (all_events b.behind))
 
-through_most : {S : Type 0} (t : ℕ) (block : ℕ → S → Numbered → List MidiEvent) (next : ℕ → S → Numbered → S)
+pub through_most : {S : Type 0} (t : ℕ) (block : ℕ → S → Numbered → List MidiEvent) (next : ℕ → S → Numbered → S)
     → ((z : ℕ) (s : S) (n : Numbered) → most_in t (block z s n) ≤ most_in t (n.event ∷ []) + 1600)
     → (ports : ℕ → ℕ) (k : ℕ) (s : ℕ → S) (es : List MidiEvent)
     → most_in t (through_ports_from block next ports k s es) ≤ most_in t es + 1600 * length es
@@ -164,11 +164,11 @@ filter_few p (x ∷ xs) = elim (cases_Bool (p x)) [
   | inr left ↦ rw left (omega (arith, filter_few p xs))
 ]
 
-one_if : (b : Bool) (bytes : List ℕ) → length (dump_if b bytes) ≤ 1
+pub one_if : (b : Bool) (bytes : List ℕ) → length (dump_if b bytes) ≤ 1
 one_if true bytes = omega arith
 one_if false bytes = omega arith
 
-each_if : (b : Bool) (bytes : List ℕ) → length bytes ≤ 407 → AllByRecursion (λ x. length x ≤ 407) (dump_if b bytes)
+pub each_if : (b : Bool) (bytes : List ℕ) → length bytes ≤ 407 → AllByRecursion (λ x. length x ≤ 407) (dump_if b bytes)
 each_if true bytes h = (h, tt)
 each_if false bytes h = tt
 
@@ -221,7 +221,7 @@ adds_few o table es t = routed_few o.route o table es t
 
 -- ---- a file
 
-source_most : ShortLaws → (bytes : List ℕ) (file : MidiFile) → Spells bytes file → length bytes ≤ 4194304 → (t : ℕ)
+pub source_most : ShortLaws → (bytes : List ℕ) (file : MidiFile) → Spells bytes file → length bytes ≤ 4194304 → (t : ℕ)
     → most_in t (merged file) ≤ 4 * length bytes
 source_most laws bytes file is few t =
     let order = track_in_order 0 t t file.tracks (omega arith) (laws.tracks bytes file (omega (arith, few)) is) in
@@ -229,10 +229,10 @@ source_most laws bytes file is few t =
     ∙ timed_placed t (get_or file.tracks t []) in
     omega (arith, ap most_of_track same, laws.within_file bytes file is t)
 
-abbrev IsShort : Written → Type 0
+abbrev pub IsShort : Written → Type 0
 IsShort w = length w.bytes < 2 ^ 32
 
-all_short : WrittenIsWithinMost → (n m : ℕ) (es : List MidiEvent) → ((t : ℕ) → t < n + m → most_in t es < 2 ^ 32)
+pub all_short : WrittenIsWithinMost → (n m : ℕ) (es : List MidiEvent) → ((t : ℕ) → t < n + m → most_in t es < 2 ^ 32)
     → All IsShort (map written (distributed_from n m es))
 all_short within n zero es h = All-nil IsShort
 all_short within n (suc m) es h =
