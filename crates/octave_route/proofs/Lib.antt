@@ -5,3 +5,4 @@ pub mod Keys
 pub mod Own
 pub mod Fit
 pub mod Least
+mod Passing

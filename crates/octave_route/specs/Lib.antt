@@ -1,3 +1,5 @@
 pub mod Messages
 pub mod Classes
+pub mod Output
+pub mod Putting
 pub mod Examples
