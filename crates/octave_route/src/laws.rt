@@ -7,6 +7,10 @@ ghost use Rattle.octave_route.specs.Classes.{nearest_value, class_value};
 ghost use Rattle.octave_route.specs.Classes.{is_used, least_used, IsLeastUsed, Refuses, FitBelow};
 ghost use Rattle.octave_route.specs.declared.fitting.OctaveFault.{OctaveFault};
 ghost use Rattle.octave_route.specs.Examples.{rising, two_keys};
+ghost use Rattle.octave_route.specs.Laws.{OctavePlaysTheSame, OctavedFilePlaysTheSame, OctavedIsPlayable, OctavedAddsFewBytes, OctavedTracksAreShort};
+
+use midi_model::{file_laws, merged_order, music_laws, size_laws};
+use mt_base::laws::{exact, sums, wider};
 
 /// The law that what is written is read as what was written, for every set of channels and all values;
 /// and that the number of a set of channels has a bit for each channel that is in the set, and no other.
@@ -45,3 +49,34 @@ pub fn octave_examples()
     ensures channels { take 7 (octave_bytes 49281 (replicate 12 8192))
         ≡ 0x7e ∷ 0x7f ∷ 0x08 ∷ 0x09 ∷ 0x03 ∷ 0x01 ∷ 0x01 ∷ [] }
 {}
+
+/// For a source without a fault, and the values of the classes of its keys, which all fit: what the octave
+/// route writes plays the same on a receiver of octave tuning, on every port: the same notes, each within
+/// one and a half steps of 1/8192 semitone and a thousandth of a cent of its source pitch, right from its
+/// beginning; all other events and kept drums are passed on.
+pub fn octaved_plays_the_same()
+    ensures events { OctavePlaysTheSame }
+    ensures file { OctavedFilePlaysTheSame }
+{
+    written_is_read();
+    music_laws();
+    sums();
+    exact();
+    wider();
+}
+
+/// It can be written as a file like its source: it is valid, in order, and each track ends once.
+pub fn octaved_is_playable()
+    ensures { OctavedIsPlayable }
+{}
+
+/// Each source event causes at most 1,600 bytes beside its own, so each track that is written for a source
+/// of at most 4,194,304 bytes fits in its chunk.
+pub fn octaved_is_short()
+    ensures events { OctavedAddsFewBytes }
+    ensures tracks { OctavedTracksAreShort }
+{
+    file_laws();
+    merged_order();
+    size_laws();
+}

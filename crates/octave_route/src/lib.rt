@@ -12,6 +12,9 @@ mod tests;
 mod translating;
 
 pub use fitting::{OctaveFault, classes};
-pub use laws::{class_laws, octave_examples, written_is_read};
+pub use laws::{
+    class_laws, octave_examples, octaved_is_playable, octaved_is_short, octaved_plays_the_same,
+    written_is_read,
+};
 pub use messages::{message, read_octave};
 pub use translating::translate;
