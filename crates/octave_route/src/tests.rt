@@ -1,3 +1,5 @@
+mod output;
+
 ghost use Rattle.std.specs.Bool.{OnTrue};
 ghost use Rattle.key_pitch.specs.Aims.{table_of};
 ghost use Rattle.octave_route.specs.Classes.{AreMapped};
