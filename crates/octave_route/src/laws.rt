@@ -1,12 +1,15 @@
 ghost use Rattle.std.specs.Prelude.{◌≡◌, ◌≤◌, ◌%◌, ℕ, pos, negsuc, Bool, false, nat_eq};
-ghost use Rattle.std.specs.Prelude.{take, replicate, [], ◌∷◌, Option, Some, None};
+ghost use Rattle.std.specs.Prelude.{take, replicate, [], ◌∷◌, ◌++◌, Option, Some, None};
 ghost use Rattle.retune_model.specs.Table.{Bounds};
 ghost use Rattle.retune_model.specs.Octave.{has_bit};
 ghost use Rattle.octave_route.specs.Messages.{WrittenIsRead, as_number, octave_bytes};
 ghost use Rattle.octave_route.specs.Classes.{nearest_value, class_value};
 ghost use Rattle.octave_route.specs.Classes.{is_used, least_used, IsLeastUsed, Refuses, FitBelow};
 ghost use Rattle.octave_route.specs.declared.fitting.OctaveFault.{OctaveFault};
-ghost use Rattle.octave_route.specs.Examples.{rising, two_keys};
+ghost use Rattle.octave_route.specs.Examples.{rising, two_keys, at, reset, level_message, drums_kept, before_notes};
+ghost use Rattle.octave_route.specs.Output.{octaved};
+ghost use Rattle.mt_base.specs.declared.event.Msg.TheVariants.{NoteOn};
+ghost use Rattle.mt_base.specs.Midi.{Says};
 ghost use Rattle.octave_route.specs.Laws.{OctavePlaysTheSame, OctavedFilePlaysTheSame, OctavedIsPlayable, OctavedAddsFewBytes, OctavedTracksAreShort};
 
 use midi_model::{file_laws, merged_order, music_laws, size_laws};
@@ -34,7 +37,8 @@ pub fn class_laws()
 
 /// Values of key 60 by the lower end of its pitch in grains: level; half a step is rounded up; the least
 /// and the greatest value, and one grain beyond each. A class has the value of its least used key, and is
-/// level where no key is used. Channels 1, 8, 15 and 16 as a number, and in the bytes of a message.
+/// level where no key is used. Channels 1, 8, 15 and 16 as a number, and in the bytes of a message. Drums
+/// on one port cause none; on another port one stands before the first note and behind the later reset.
 pub fn octave_examples()
     ensures level { nearest_value 60 (pos 192000000000000) ≡ pos 8192 }
     ensures half { nearest_value 60 (pos 192000195312500) ≡ pos 8193 }
@@ -48,6 +52,10 @@ pub fn octave_examples()
     ensures channel_16 { as_number 16 (λ c. nat_eq c 15) ≡ 32768 }
     ensures channels { take 7 (octave_bytes 49281 (replicate 12 8192))
         ≡ 0x7e ∷ 0x7f ∷ 0x08 ∷ 0x09 ∷ 0x03 ∷ 0x01 ∷ 0x01 ∷ [] }
+    ensures output { octaved drums_kept (replicate 12 8192)
+        (before_notes ++ at 5 1 (Says (NoteOn 1 69 64)) ∷ at 9 1 reset ∷ [])
+        ≡ before_notes ++ at 5 1 (level_message 2) ∷ at 5 1 (Says (NoteOn 1 69 64))
+        ∷ at 9 1 reset ∷ at 9 1 (level_message 2) ∷ [] }
 {}
 
 /// For a source without a fault, and the values of the classes of its keys, which all fit: what the octave

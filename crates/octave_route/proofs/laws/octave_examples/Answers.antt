@@ -9,3 +9,6 @@ returns-clause-least_key c = refl
 pub returns-clause-no_key : goal.returns-clause-no_key
 unfolding least_used
 returns-clause-no_key c = refl
+
+pub returns-clause-output : goal.returns-clause-output
+returns-clause-output c = refl
