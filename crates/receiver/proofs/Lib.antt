@@ -22,3 +22,5 @@ pub mod Played
 pub mod Pedals
 pub mod Struck
 pub mod Stepping
+pub mod Reaching
+pub mod Calm

@@ -1,7 +1,7 @@
 -- What stands for a list of events stands, after one more event, for the list with that event at its end.
-use Rattle.std.proofs.Common.{arith, ◌≤◌, ◌≡◌, ◌<◌, ◌+◌, ◌++◌, ◌&&◌, ◌||◌, not, ℕ, suc, List, [], ◌∷◌, Bool, true, false, cond, Option, Some, None, is_some, refl, ap, sym, ◌∙◌, set, get_or, length, add-one}
+use Rattle.std.proofs.Common.{arith, ◌≤◌, ◌≡◌, ◌<◌, ◌+◌, ◌++◌, ◌&&◌, ◌||◌, not, ℕ, suc, List, [], ◌∷◌, Bool, true, false, cond, Option, Some, None, is_some, refl, ap, sym, subst, ◌∙◌, set, get_or, length, add-one}
 use Rattle.std.proofs.lemmas.List.{set-get_or}
-use Rattle.mt_base.specs.Midi.{MidiEvent}
+use Rattle.mt_base.specs.Midi.{MidiEvent, MidiWhat}
 use Rattle.mt_base.specs.declared.event.Msg.{Msg}
 use Rattle.mt_base.specs.declared.event.Msg.TheVariants.{NoteOn, NoteOff, KeyPressure, Control, Program, Pressure, Bend}
 use Rattle.midi_model.specs.Channel.{Role, Stored, EntryHigh, EntryLow, NrpnLow, NrpnHigh, RpnLow, RpnHigh, AllSoundOff, ResetControllers, AllNotesOff, Ignored, role, Target, Nowhere, TuningProgram, ZoneSize, Value, target}
@@ -9,10 +9,12 @@ use Rattle.midi_model.specs.Sysex.{Retune, Doing, Plays, Resets, Tunes, Nothing,
 use Rattle.midi_model.specs.Music.{Music, channel_at, advance, step}
 use Rattle.midi_model.specs.Tuning.{Tuning, chosen, chosen_by, tuning_heard, tuning_after}
 use Rattle.midi_model.specs.Receiver.{after, receive}
+use Rattle.receiver.specs.declared.ends.Ends.{Ends}
 use Rattle.receiver.specs.declared.player.Player.{Player}
 use Rattle.receiver.specs.Sounding.{sounding_at, ended_on}
 use Rattle.receiver.specs.Following.{FollowsBy}
-use Rattle.receiver.specs.Stands.{PlayerStands, HoldValues, HasRoom, set_up_of, slot, selected_in}
+use Rattle.receiver.specs.Reach.{TellsBy}
+use Rattle.receiver.specs.Stands.{PlayerStands, HoldValues, HasRoom, TellsEnded, set_up_of, slot, selected_in}
 use Rattle.receiver.specs.State.{program_chosen, program_by}
 use Rattle.receiver.specs.declared.tunings.Tunings.{Tunings}
 use Rattle.receiver.specs.Tunings.{value_in, HearsBy}
@@ -104,7 +106,7 @@ step_values m (Tunes r) s f p k e = retuned_same r.program r.keys f s.values p k
 step_values m Nothing s f p k e = e
 
 -- the same channels and zones
-same_set_up : (r : Player) (es : List MidiEvent) → PlayerStands r es → set_up_of r ≡ set_up (after es).music.channels (after es).music.zones
+pub same_set_up : (r : Player) (es : List MidiEvent) → PlayerStands r es → set_up_of r ≡ set_up (after es).music.channels (after es).music.zones
 same_set_up r es h = ap (λ ss. set_up ss (set_up_of r).zones) h.channels ∙ ap (set_up (after es).music.channels) h.zones
 
 more : (b : Bool) (n k : ℕ) → n ≡ k → cond b (n + 1) n ≡ cond b (suc k) k
@@ -166,3 +168,10 @@ ended_then r s t es e h f at one c k cl kl =
     ∙ ap (λ o. is_some (sounding_at m.notes c k) && (strikes (doing e.what) c k || not (is_some o))) (slot_then r s t es e h f at one c k cl kl)
     ∙ sym (ended_step m e c k one)
     ∙ sym (ap (λ x. ended_on c k m.notes x.music.notes) (after_append es e))
+
+pub tells_then : (r s : Player) (ends : Ends) (t : ℕ) (es : List MidiEvent) (e : MidiEvent) (what : MidiWhat) → PlayerStands r es → FollowsBy r t (doing what) s → TellsBy r (doing what) s ends
+    → e.tick ≡ t → e.what ≡ what → AtMostOne (after es).music.notes → TellsEnded ends (after es).music.notes (after (es ++ e ∷ [])).music.notes
+tells_then r s ends t es e what h f tells at is one c k cl kl =
+    tells c k cl kl
+    ∙ ap (λ w. is_some (slot r c k) && (strikes (doing w) c k || not (is_some (slot s c k)))) (sym is)
+    ∙ ended_then r s t es e h (subst (λ w. FollowsBy r t (doing w) s) (sym is) f) at one c k cl kl

@@ -32,7 +32,7 @@ struck_or_quiet true false = refl
 struck_or_quiet false true = refl
 struck_or_quiet false false = refl
 
-has_ended : (a b s k : ℕ) (t : Bool) → b < 2 ^ 128 → k < 128 → has s k ≡ t
+pub has_ended : (a b s k : ℕ) (t : Bool) → b < 2 ^ 128 → k < 128 → has s k ≡ t
     → has (bit_and a (bit_or (bit_not w128 b) s)) k ≡ (has a k && (t || not (has b k)))
 has_ended a b s k t fits below e =
     has_and a (bit_or (bit_not w128 b) s) k

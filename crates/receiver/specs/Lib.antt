@@ -10,3 +10,4 @@ pub mod Zones
 pub mod Tunings
 pub mod Stands
 pub mod Following
+pub mod Reach

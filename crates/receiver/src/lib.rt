@@ -7,6 +7,7 @@ mod asking;
 mod ends;
 mod entry;
 mod keys;
+mod narrow;
 mod note;
 mod notes;
 mod others;
@@ -27,6 +28,7 @@ mod values;
 mod zones;
 
 pub use ends::Ends;
+pub use narrow::is_wide;
 pub use note::Note;
 pub use param::Param;
 pub use player::Player;

@@ -153,7 +153,7 @@ impl Player {
     }
 
     /// The notes of a channel end that nothing holds.
-    fn settle_one(&mut self, channel: Channel)
+    pub(crate) fn settle_one(&mut self, channel: Channel)
         ensures notes { (t : ℕ) → SlotsBecome (only_on channel (settled_by (set_up_of self.old) t))
             self.old self.new }
         ensures rest { SameSetUp self.old self.new }

@@ -2,10 +2,11 @@ ghost use Rattle.std.specs.Prelude.{◌≡◌, ℕ};
 ghost use Rattle.mt_base.specs.Midi.{view_what};
 
 use crate::ends::Ends;
+use crate::narrow::is_wide;
 use crate::playing::Playing;
 use crate::strokes::{channel_number, struck_by};
 use crate::zones::ZoneSizes;
-use midi_model::receiver_laws;
+use midi_model::{music_laws, receiver_laws};
 use mt_base::{Msg, What};
 use mts_msg::is_reset;
 
@@ -22,7 +23,7 @@ pub struct Player {
 
 // What an event does, as a whole.
 impl Player {
-    ghost use Rattle.std.specs.Prelude.{◌<◌, ◌≤◌, ◌↔◌, ◌++◌, ◌+◌, [], ◌∷◌, List, None, ◌&&◌, ◌||◌, not, is_some, replicate, slice_index, IsTrue};
+    ghost use Rattle.std.specs.Prelude.{◌<◌, ◌≤◌, ◌↔◌, ◌++◌, ◌+◌, [], ◌∷◌, List, None, ◌&&◌, ◌||◌, not, is_some, true, false, replicate, slice_index, IsTrue};
     ghost use Rattle.mt_base.specs.Valid.{IsValidMsg, IsValidWhat};
     ghost use Rattle.mt_base.specs.Midi.{MidiEvent, Says, SysexOf};
     ghost use Rattle.midi_model.specs.Channel.{default_channel};
@@ -33,6 +34,7 @@ impl Player {
     ghost use Rattle.receiver.specs.Turns.{strikes};
     ghost use Rattle.receiver.specs.Zones.{zones_in};
     ghost use Rattle.receiver.specs.Following.{FollowsBy, NothingSounds};
+    ghost use Rattle.receiver.specs.Reach.{spares, TellsBy};
     ghost use Rattle.receiver.specs.Stands.{PlayerStands, HasRoom, TellsEnded, states_of, selected_in, slot, begun_in, AreFew};
 
     /// A player before any event: all channels have their defaults, and nothing sounds.
@@ -159,6 +161,19 @@ impl Player {
         }
     }
 
+    /// An event that may reach all notes, and which of them ended by it.
+    fn step_all(&mut self, tick: u32, what: &What<'_>) -> Ends
+        requires valid { IsValidWhat (view_what what.now) }
+        requires room { HasRoom self.old (view_what what.now) }
+        requires few { self.old.begun < 4294967295 }
+        ensures follows { FollowsBy self.old tick (doing (view_what what.now)) self.new }
+        ensures tells { TellsBy self.old (doing (view_what what.now)) self.new result }
+    {
+        let before = self.sounding_keys();
+        self.follow(tick, what);
+        self.ended(before, what)
+    }
+
     /// Takes an event at its tick, and tells which notes ended by it. The event has room, and fewer
     /// than 4,294,967,295 notes began before it.
     pub fn step(&mut self, tick: u32, what: &What<'_>) -> Ends
@@ -170,11 +185,15 @@ impl Player {
         ensures ends { (es : List MidiEvent) (e : MidiEvent) → PlayerStands self.old es
             → e.tick ≡ tick → e.what ≡ view_what what.now
             → TellsEnded result (after es).music.notes (after (es ++ e ∷ [])).music.notes }
+        ensures spares { (c k : ℕ) → c < 16 → k < 128 → spares (view_what what.now) c ≡ true
+            → has (slice_index result.keys c) k ≡ false }
         ensures begun { begun_in self.new ≤ begun_in self.old + 1 }
     {
+        music_laws();
         receiver_laws();
-        let before = self.sounding_keys();
-        self.follow(tick, what);
-        self.ended(before, what)
+        match *what {
+            What::Message(ref message) if !is_wide(message) => self.step_here(tick, message),
+            _ => self.step_all(tick, what),
+        }
     }
 }

@@ -9,7 +9,7 @@ use mt_base::{Channel, Msg, What};
 
 /// The key that a message strikes, as a bit, where it is a note on of the channel and its velocity
 /// isn't 0.
-fn key_struck(message: &Msg, channel: u8) -> u128
+pub(crate) fn key_struck(message: &Msg, channel: u8) -> u128
     requires { IsValidMsg message.now }
     ensures { (k : ℕ) → k < 128 → has result k ≡ strikes_by message.now channel k }
 {

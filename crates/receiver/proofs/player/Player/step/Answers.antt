@@ -1,26 +1,41 @@
-use Rattle.std.proofs.Common.{arith, ◌∙◌, ◌&&◌, ◌||◌, not, ap, sym, is_some, subst}
-use Rattle.mt_base.specs.Midi.{MidiWhat, view_what}
+use Rattle.std.proofs.Common.{arith, ◌≡◌, ◌∙◌, ap, sym, subst}
+use Rattle.mt_base.specs.Midi.{Says, view_what}
 use Rattle.midi_model.specs.Sysex.{doing}
 use Rattle.receiver.specs.Following.{FollowsBy}
-use Rattle.receiver.specs.Stands.{HasRoom, slot}
-use Rattle.receiver.specs.Turns.{strikes, begins}
-use Rattle.receiver.proofs.Stepping.{stands_then, ended_then, one_more}
+use Rattle.receiver.specs.Stands.{HasRoom}
+use Rattle.receiver.specs.Turns.{begins}
+use Rattle.receiver.proofs.Calm.{calm_of}
+use Rattle.receiver.proofs.Stepping.{stands_then, tells_then, one_more}
 use Rattle.receiver.proofs.player.Player.step.Goals as goal
 
-pub returns-clause-stands : goal.returns-clause-stands
-returns-clause-stands c es e h at is =
-    let room : MidiWhat → Type 0 = λ w. HasRoom c.args.self.now w in
-    let followed : MidiWhat → Type 0 = λ w. FollowsBy c.args.self.now c.args.tick (doing w) c.follow.new.self in
-    stands_then c.args.self.now c.follow.new.self c.args.tick es e h (subst room (sym is) c.requires.room) (subst followed (sym is) c.follow.ensures) at (c.receiver_laws.ensures.one_note es)
+pub returns-in-Message-clause-stands : goal.returns-in-Message-clause-stands
+returns-in-Message-clause-stands c es e h at is =
+    let r = c.args.self.now in
+    let s = c.step_here.new.self in
+    let says : Says c.in-Message.message ≡ e.what = sym (is ∙ ap view_what c.in-Message.is) in
+    let follows : FollowsBy r c.args.tick (doing e.what) s = subst (λ w. FollowsBy r c.args.tick (doing w) s) says (c.step_here.ensures.follows (calm_of r es h c.music_laws.ensures.settled)) in
+    stands_then r s c.args.tick es e h (subst (λ w. HasRoom r w) (sym is) c.requires.room) follows at (c.receiver_laws.ensures.one_note es)
 
-pub returns-clause-ends : goal.returns-clause-ends
-returns-clause-ends c es e h at is d k dl kl =
-    let followed : MidiWhat → Type 0 = λ w. FollowsBy c.args.self.now c.args.tick (doing w) c.follow.new.self in
-    let s = c.follow.new.self in
-    c.ended.ensures d k dl kl
-    ∙ ap (λ b. b && (strikes (doing (view_what c.args.what.now)) d k || not (is_some (slot s d k)))) (c.sounding_keys-before.ensures d k dl kl)
-    ∙ ap (λ w. is_some (slot c.args.self.now d k) && (strikes (doing w) d k || not (is_some (slot s d k)))) (sym is)
-    ∙ ended_then c.args.self.now s c.args.tick es e h (subst followed (sym is) c.follow.ensures) at (c.receiver_laws.ensures.one_note es) d k dl kl
+pub returns-in-Message-clause-ends : goal.returns-in-Message-clause-ends
+returns-in-Message-clause-ends c es e h at is =
+    let r = c.args.self.now in
+    let says : e.what ≡ Says c.in-Message.message = is ∙ ap view_what c.in-Message.is in
+    tells_then r c.step_here.new.self c.step_here.result c.args.tick es e (Says c.in-Message.message) h (c.step_here.ensures.follows (calm_of r es h c.music_laws.ensures.settled)) c.step_here.ensures.tells at says
+    (c.receiver_laws.ensures.one_note es)
 
-pub returns-clause-begun : goal.returns-clause-begun
-returns-clause-begun c = omega (arith, c.follow.ensures.begun, one_more (begins (doing (view_what c.args.what.now))) c.args.self.now.begun)
+pub returns-in-Message-clause-begun : goal.returns-in-Message-clause-begun
+returns-in-Message-clause-begun c = c.step_here.ensures.begun
+
+pub returns-in_default-clause-stands : goal.returns-in_default-clause-stands
+returns-in_default-clause-stands c es e h at is =
+    let r = c.args.self.now in
+    let s = c.step_all.new.self in
+    stands_then r s c.args.tick es e h (subst (λ w. HasRoom r w) (sym is) c.requires.room) (subst (λ w. FollowsBy r c.args.tick (doing w) s) (sym is) c.step_all.ensures.follows) at (c.receiver_laws.ensures.one_note es)
+
+pub returns-in_default-clause-ends : goal.returns-in_default-clause-ends
+returns-in_default-clause-ends c es e h at is =
+    tells_then c.args.self.now c.step_all.new.self c.step_all.result c.args.tick es e (view_what c.args.what.now) h c.step_all.ensures.follows c.step_all.ensures.tells at is
+    (c.receiver_laws.ensures.one_note es)
+
+pub returns-in_default-clause-begun : goal.returns-in_default-clause-begun
+returns-in_default-clause-begun c = omega (arith, c.step_all.ensures.follows.begun, one_more (begins (doing (view_what c.args.what.now))) c.args.self.now.begun)

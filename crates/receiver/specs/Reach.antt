@@ -1,0 +1,39 @@
+-- Which messages may reach notes of other channels than their own, and a player in which no note is left to settle.
+use Rattle.std.specs.Prelude.{◌≡◌, ◌<◌, ℕ, Bool, true, false, ◌&&◌, ◌||◌, not, nat_eq, is_some, slice_index}
+use Rattle.mt_base.specs.Midi.{MidiWhat, Says, channel_of}
+use Rattle.mt_base.specs.declared.event.Msg.{Msg}
+use Rattle.mt_base.specs.declared.event.Msg.TheVariants.{Control}
+use Rattle.midi_model.specs.Channel.{Role, Stored, EntryHigh, AllSoundOff, ResetControllers, AllNotesOff, role}
+use Rattle.midi_model.specs.Sysex.{Doing}
+use Rattle.receiver.specs.declared.ends.Ends.{Ends}
+use Rattle.receiver.specs.declared.player.Player.{Player}
+use Rattle.receiver.specs.Notes.{has}
+use Rattle.receiver.specs.Stands.{set_up_of, slot}
+use Rattle.receiver.specs.Turns.{kept, settled_by, strikes}
+
+-- a pedal, data entry that may set a zone, and the messages to all notes
+abbrev pub is_wide_role : ℕ → Role → Bool
+is_wide_role n Stored = nat_eq n 64 || nat_eq n 66
+is_wide_role n EntryHigh = true
+is_wide_role n AllSoundOff = true
+is_wide_role n ResetControllers = true
+is_wide_role n AllNotesOff = true
+is_wide_role n _ = false
+
+-- whether a message may change how notes of other channels than its own are held, or end them
+abbrev pub is_wide : Msg → Bool
+is_wide (Control c n v) = is_wide_role n (role n)
+is_wide _ = false
+
+-- whether an event ends no note of a channel: a message to another channel that reaches the notes of its own alone
+abbrev pub spares : MidiWhat → ℕ → Bool
+spares (Says msg) c = not (is_wide msg) && not (nat_eq c (channel_of msg))
+spares _ c = false
+
+-- no note is left that nothing holds
+abbrev pub IsCalm : Player → Type 0
+IsCalm r = (t c k : ℕ) → c < 16 → k < 128 → kept (settled_by (set_up_of r) t) (slot r c k) ≡ slot r c k
+
+-- bit k of channel c is set exactly where a note sounded there before the event, and doesn't after it or was struck again
+abbrev pub TellsBy : Player → Doing → Player → Ends → Type 0
+TellsBy r doing s ends = (c k : ℕ) → c < 16 → k < 128 → has (slice_index ends.keys c) k ≡ (is_some (slot r c k) && (strikes doing c k || not (is_some (slot s c k))))

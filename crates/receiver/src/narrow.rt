@@ -1,0 +1,75 @@
+ghost use Rattle.std.specs.Prelude.{◌≡◌, ◌≢◌, ◌<◌, ◌≤◌, ◌+◌, ℕ, false, is_some, slice_index};
+ghost use Rattle.mt_base.specs.Midi.{Says, channel_of};
+ghost use Rattle.mt_base.specs.Valid.{IsValidMsg};
+ghost use Rattle.midi_model.specs.Sysex.{Plays};
+ghost use Rattle.receiver.specs.Following.{FollowsBy};
+ghost use Rattle.receiver.specs.Notes.{has};
+ghost use Rattle.receiver.specs.Reach.{is_wide, IsCalm, TellsBy};
+ghost use Rattle.receiver.specs.Stands.{HasRoom, slot};
+
+use crate::ends::Ends;
+use crate::player::Player;
+use crate::role::{Purpose, purpose_of};
+use crate::strokes::{channel_number, key_struck};
+use mt_base::Msg;
+
+/// Whether a message may change how notes of other channels than its own are held, or end them.
+pub fn is_wide(message: &Msg) -> bool
+    ensures { result ≡ is_wide message.now }
+{
+    match *message {
+        Msg::Control { number, .. } => match purpose_of(number) {
+            Purpose::Keep => number == 64 || number == 66,
+            Purpose::DataEntryMsb | Purpose::SoundOff | Purpose::Reset | Purpose::NotesOff => true,
+            _ => false,
+        },
+        _ => false,
+    }
+}
+
+// What a message does that reaches the notes of its own channel alone, which most do.
+impl Player {
+    /// The keys of a channel on which a note sounds.
+    fn keys_on(&self, place: u8) -> u128
+        requires { place < 16 }
+        ensures { (k : ℕ) → k < 128 → has result k ≡ is_some (slot self.now place k) }
+    {
+        self.channels[place as usize].keys.sounding()
+    }
+
+    /// What the message does, and then the notes of its channel end that nothing holds.
+    fn play_here(&mut self, tick: u32, message: &Msg)
+        requires valid { IsValidMsg message.now }
+        requires room { HasRoom self.old (Says message.now) }
+        requires few { self.old.begun < 4294967295 }
+        requires narrow { is_wide message.now ≡ false }
+        ensures follows { IsCalm self.old → FollowsBy self.old tick (Plays message.now) self.new }
+        ensures elsewhere { (c k : ℕ) → c < 16 → k < 128 → c ≢ channel_of message.now
+            → slot self.new c k ≡ slot self.old c k }
+        ensures begun { self.new.begun ≤ self.old.begun + 1 }
+    {
+        self.act(tick, message);
+        self.settle_one(message.channel());
+    }
+
+    /// The same, with the notes that ended by it.
+    pub(crate) fn step_here(&mut self, tick: u32, message: &Msg) -> Ends
+        requires valid { IsValidMsg message.now }
+        requires room { HasRoom self.old (Says message.now) }
+        requires few { self.old.begun < 4294967295 }
+        requires narrow { is_wide message.now ≡ false }
+        ensures follows { IsCalm self.old → FollowsBy self.old tick (Plays message.now) self.new }
+        ensures tells { TellsBy self.old (Plays message.now) self.new result }
+        ensures alone { (c k : ℕ) → c < 16 → k < 128 → c ≢ channel_of message.now
+            → has (slice_index result.keys c) k ≡ false }
+        ensures begun { self.new.begun ≤ self.old.begun + 1 }
+    {
+        let place = channel_number(message);
+        let before = self.keys_on(place);
+        self.play_here(tick, message);
+        let now = self.keys_on(place);
+        let mut keys = [0; 16];
+        keys[place as usize] = before & (!now | key_struck(message, place));
+        Ends { keys }
+    }
+}
