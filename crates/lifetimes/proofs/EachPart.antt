@@ -13,7 +13,7 @@ use Rattle.lifetimes.specs.Resting.{end_kept}
 use Rattle.lifetimes.specs.OnePart.{IsPartKept, IsKeptOrLost, PartEnds, PartForgets, is_placed, are_placed}
 use Rattle.lifetimes.specs.Port.{ListsAll, IsKept, HasPlace, EachPart, all_placed, struck_in, listed_in, rests_in}
 use Rattle.lifetimes.proofs.Placed.{placed_of, admitted_of}
-use Rattle.lifetimes.proofs.PartEnding.{both_forget}
+use Rattle.lifetimes.proofs.PartEnding.{none_ends, both_forget}
 
 -- ---- lists of parts
 
@@ -208,3 +208,16 @@ module _ (tick tail : ℕ) (old new : Port) (lo : length old.parts ≡ 16) (ln :
   pub forgotten_kept : (z : ℕ) → IsKept z old → IsKept z new
   forgotten_kept z k some = placed_by new.parts (λ c low d.
       (forgets c (omega (arith, low, ln)) d).kept z (λ s. placed_at old.parts c d (k some) (omega (arith, low, ln, lo))) some)
+
+-- notes of one part alone end
+pub ends_alone : (which : ℕ → ℕ → Bool) (tick tail p : ℕ) (ns : List Notes) (x y : Notes) → p < length ns
+    → ((c k : ℕ) → c < 16 → k < 128 → c ≢ p → which c k ≡ false)
+    → PartEnds false (which p) tick tail (get_or ns p x) y
+    → (c : ℕ) → c < 16 → (d : Notes) → PartEnds false (which c) tick tail (get_or ns c d) (get_or (set ns p y) c d)
+ends_alone which tick tail p ns x y low none ends c cl d = elim (eqb_tells c p) [
+  | inl t ↦ subst (λ i. PartEnds false (which i) tick tail (get_or ns i d) (get_or (set ns p y) i d)) (sym t.1)
+      (subst (λ o. PartEnds false (which p) tick tail o (get_or (set ns p y) p d)) (get_or_default ns p x d low)
+      (subst (λ n. PartEnds false (which p) tick tail (get_or ns p x) n) (sym (get_or-set_same ns p y d low)) ends))
+  | inr t ↦ subst (λ n. PartEnds false (which c) tick tail (get_or ns c d) n) (sym (get_or-set_other ns p c y d t.1))
+      (none_ends (which c) tick tail (get_or ns c d) (λ k kl. none c k cl kl t.1))
+]

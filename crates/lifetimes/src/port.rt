@@ -1,9 +1,10 @@
-ghost use Rattle.std.specs.Prelude.{◌≡◌, ◌≤◌, ◌<◌, ◌+◌, ℕ, ℤ, Bool, slice_index, length, List, [], true, false, None, Some, IfSome, OnOk};
+ghost use Rattle.std.specs.Prelude.{◌≡◌, ◌≢◌, ◌≤◌, ◌<◌, ◌+◌, ℕ, ℤ, Bool, slice_index, length, List, [], true, false, None, Some, IfSome, OnOk};
 ghost use Rattle.mt_base.specs.Midi.{MidiEvent, view_what};
 ghost use Rattle.mt_base.specs.Valid.{IsValidWhat};
 ghost use Rattle.retune_model.specs.Options.{Options};
 ghost use Rattle.retune_model.specs.Faults.{Targets};
 ghost use Rattle.receiver.specs.Notes.{has};
+ghost use Rattle.receiver.specs.Reach.{spares};
 ghost use Rattle.receiver.specs.Stands.{begun_in, HasRoom};
 ghost use Rattle.lifetimes.specs.OnePart.{PartEnds, PartForgets};
 ghost use Rattle.lifetimes.specs.Port.{ListsAll, IsKept, HasPlace, EachPart, Begins, Takes, struck_in, listed_in, rests_in, is_reset_of};
@@ -15,7 +16,7 @@ use crate::notes::{Notes, Struck, sounding_of};
 use key_pitch::Aim;
 use mt_base::{Channel, Memory, Pair, Part, What};
 use mts_msg::is_reset;
-use receiver::{Ends, Player};
+use receiver::{Ends, Player, is_wide};
 use std::alloc::Global;
 use std::collections::VecDeque;
 
@@ -128,6 +129,21 @@ impl Port {
         }
     }
 
+    /// The notes of one channel ended that bits of its mask stand for; no other mask has a bit.
+    fn end_here(&mut self, channel: Channel, ends: &Ends, tick: u32, tail: u32)
+        requires kept { IsKept tail self.old }
+        requires others { (c k : ℕ) → c < 16 → k < 128 → c ≢ channel
+            → has (slice_index ends.now.keys c) k ≡ false }
+        ensures number { self.new.number ≡ self.old.number }
+        ensures player { self.new.player ≡ self.old.player }
+        ensures many { length self.new.parts ≡ 16 }
+        ensures parts { EachPart (λ c. PartEnds false (has (slice_index ends.now.keys c)) tick tail)
+            self.old self.new }
+    {
+        let place = channel.number() as usize;
+        self.parts[place].end_all(ends.keys[place], channel, tick, tail, &mut self.ends);
+    }
+
     /// All notes ended, and none rests.
     fn clear(&mut self)
         ensures number { self.new.number ≡ self.old.number }
@@ -144,14 +160,18 @@ impl Port {
 
     /// The notes ended that an event ends.
     fn let_go(&mut self, what: &What<'_>, ends: &Ends, tick: u32, tail: u32)
-        requires { IsKept tail self.old }
+        requires kept { IsKept tail self.old }
+        requires spared { (c k : ℕ) → c < 16 → k < 128 → spares (view_what what.now) c ≡ true
+            → has (slice_index ends.now.keys c) k ≡ false }
         ensures number { self.new.number ≡ self.old.number }
         ensures player { self.new.player ≡ self.old.player }
         ensures many { length self.new.parts ≡ 16 }
         ensures parts { EachPart (λ c. PartEnds (is_reset_of (view_what what.now))
             (has (slice_index ends.now.keys c)) tick tail) self.old self.new }
     {
-        if resets(what) {
+        if let Some(channel) = own_channel(what) {
+            self.end_here(channel, ends, tick, tail);
+        } else if resets(what) {
             self.clear();
         } else {
             self.end_all(ends, tick, tail);
@@ -240,6 +260,17 @@ fn resets(what: &What<'_>) -> bool
     match *what {
         What::Sysex { lead, bytes } => lead == 0xf0 && is_reset(bytes),
         What::Message(_) | What::Meta { .. } => false,
+    }
+}
+
+/// The channel of a message that ends notes of no other.
+fn own_channel(what: &What<'_>) -> Option<Channel>
+    ensures spares { IfSome result (λ c. (d : ℕ) → d ≢ c → spares (view_what what.now) d ≡ true) }
+    ensures no_reset { IfSome result (λ c. is_reset_of (view_what what.now) ≡ false) }
+{
+    match *what {
+        What::Message(ref message) if !is_wide(message) => Some(message.channel()),
+        _ => None,
     }
 }
 

@@ -8,8 +8,3 @@ pub returns-then-resets-clause-parts : goal.returns-then-resets-clause-parts
 returns-then-resets-clause-parts c =
     subst (λ r. EachPart (λ e. PartEnds r (has (slice_index c.args.ends.now.keys e)) c.args.tick c.args.tail) c.args.self.now c.clear.new.self)
     (sym c.if-resets.true ∙ c.resets.ensures) (c.clear.ensures.parts (λ e. has (slice_index c.args.ends.now.keys e)) c.args.tick c.args.tail)
-
-pub returns-else-resets-clause-parts : goal.returns-else-resets-clause-parts
-returns-else-resets-clause-parts c =
-    subst (λ r. EachPart (λ e. PartEnds r (has (slice_index c.args.ends.now.keys e)) c.args.tick c.args.tail) c.args.self.now c.end_all.new.self)
-    (sym c.if-resets.false ∙ c.resets.ensures) c.end_all.ensures.parts
