@@ -27,3 +27,4 @@ pub use fault::{SourceFault, SourceKind, StepFault};
 pub use noted::Noted;
 pub use options::{Options, Route};
 pub use parts::Parts;
+pub use tracks::Tracks;

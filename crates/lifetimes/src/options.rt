@@ -60,7 +60,7 @@ impl Options {
     ghost use Rattle.retune_model.specs.Faults.{is_part};
 
     /// Whether the notes of a channel are retuned.
-    pub(crate) fn retunes(&self, channel: Channel) -> bool
+    pub fn retunes(&self, channel: Channel) -> bool
         ensures { result ≡ is_part (options_of self.now) channel }
     {
         !(self.keep_drums && channel.number() == 9)

@@ -8,7 +8,7 @@ use mt_base::{Event, What};
 
 /// The ports of the tracks so far (`FF 21 01 pp` names one).
 #[derive(Drop)]
-pub(crate) struct Tracks {
+pub struct Tracks {
     ports: [u8; 1024],
     /// Which tracks have had a channel message or named a port.
     started: [bool; 1024],

@@ -1,6 +1,6 @@
 -- A source that is passed on, event by event.
-use Rattle.std.proofs.Common.{◌≡◌, ◌<◌, ◌≤◌, ◌+◌, ◌^◌, ℕ, zero, suc, List, [], ◌∷◌, ◌++◌, Bool, true, false, cond, not, ◌&&◌, nat_eq, Option, Some, None, length, refl, ap, sym, subst, ◌∙◌, arith, length-append}
-use Rattle.std.specs.Prelude.{IfSome, unwrap_or}
+use Rattle.std.proofs.Common.{◌≡◌, ◌<◌, ◌≤◌, ◌^◌, ℕ, zero, suc, List, [], ◌∷◌, ◌++◌, Bool, true, false, cond, not, ◌&&◌, nat_eq, Option, Some, None, length, refl, ap, sym, subst, ◌∙◌, arith, length-append}
+use Rattle.std.specs.Prelude.{IfSome}
 use Rattle.std.specs.List.{AllByRecursion}
 use Rattle.std.specs.Option.{option_map}
 use Rattle.std.proofs.lemmas.List.{append_assoc}
@@ -10,29 +10,21 @@ use Rattle.mt_base.specs.Valid.{IsValidEvent, IsValidWhat}
 use Rattle.midi_model.specs.Sysex.{doing}
 use Rattle.midi_model.specs.Writing.{Written}
 use Rattle.midi_model.specs.TuningBytes.{change_bytes}
-use Rattle.retune_model.specs.Table.{Bounds, tuning_target}
-use Rattle.retune_model.specs.Options.{Options, bends_notes}
+use Rattle.retune_model.specs.Options.{Options}
 use Rattle.retune_model.specs.Faults.{Targets, is_part}
-use Rattle.retune_model.specs.SourceFaults.{IsFaultless, fault_at}
 use Rattle.retune_model.specs.Ports.{ports_after, ports_from, all_zero, events_on}
 use Rattle.retune_model.specs.PortOutput.{kept_for}
 use Rattle.retune_model.specs.Blocks as blocks
-use Rattle.retune_model.specs.Dump.{has_note_on, dump_if, tuning_if, told_value}
+use Rattle.retune_model.specs.Dump.{has_note_on, dump_if, told_value}
 use Rattle.retune_model.specs.Routes.{Told, nothing_told, live_next, live_block}
-use Rattle.key_pitch.specs.Aims.{tuning_aim, on_tuning, bend_aim}
-use Rattle.lifetimes.specs.declared.change.Begun.{Begun}
-use Rattle.lifetimes.specs.declared.fault.SourceFault.{SourceFault}
-use Rattle.lifetimes.specs.declared.fault.StepFault.{StepFault}
-use Rattle.lifetimes.specs.declared.fault.StepFault.TheVariants.{Source}
-use Rattle.lifetimes.specs.Views.{fault_of}
-use Rattle.lifetimes.specs.Told.{port_on, begun_by, aim_in, source_of}
+use Rattle.lifetimes.specs.Told.{port_on}
 use Rattle.lifetimes.specs.Noted.{AreNoted}
 use Rattle.routes.specs.declared.device.Device.{Device}
 use Rattle.routes.specs.declared.kept.Kept.{Kept}
 use Rattle.routes.specs.Putting.{IsPut}
 use Rattle.routes.specs.Routed.{dump_of, routed, is_live, lives, passed}
 use Rattle.routes.specs.Device.{block_events}
-use Rattle.routes.specs.Kept.{told_in, key_begun, value_in, told_if, told_of, due_if}
+use Rattle.routes.specs.Kept.{told_in, key_begun, told_of, due_if}
 use Rattle.routes.proofs.Blocks.{Suits, block_same}
 use Rattle.routes.proofs.Bytes.{told_fits}
 use Rattle.routes.proofs.Channels.{channels_are, some_marked, valid_on}
@@ -40,21 +32,19 @@ use Rattle.routes.proofs.Lives.{routed_is_passed}
 use Rattle.routes.proofs.Puts.{not_begun}
 
 -- Of all events a front was taken, for which P holds; what it causes was put, and what the rest causes is still to come.
-pub record Passing (P : List MidiEvent → Type 0) (o : Options) (table : Targets) (all rest : List MidiEvent) (position : ℕ) (kept : Kept)
+pub record Passing (P : List MidiEvent → Type 0) (o : Options) (table : Targets) (all rest : List MidiEvent) (kept : Kept)
     (old new : List Written) : Type 0 where
   pub front : List MidiEvent
   pub split : all ≡ front ++ rest
-  pub count : position ≡ length front
   pub stands : P front
   pub put : IsPut old (routed o table all) (passed (is_live o.route) o table all (ports_from all_zero front) (length front) (told_in kept) rest) new
 
 pub begins : (P : List MidiEvent → Type 0) (o : Options) (table : Targets) (all rest : List MidiEvent) (kept : Kept) (old : List Written) → P []
     → rest ≡ all → told_in kept ≡ (λ z. nothing_told)
-    → Passing P o table all rest 0 kept old old
+    → Passing P o table all rest kept old old
 begins P o table all rest kept old stands is nothing = record {
   front = [];
   split = sym is;
-  count = refl;
   stands = stands;
   put = subst (λ l. IsPut old (routed o table all) l old)
       (routed_is_passed o table all
@@ -78,12 +68,12 @@ later o table all front z s e rest = passed (is_live o.route) o table all (ports
     (next_states o table all z s e) rest
 
 -- the event's block comes next
-pub block_next : (P : List MidiEvent → Type 0) (o : Options) (table : Targets) (all rest : List MidiEvent) (position : ℕ) (kept : Kept)
-    (old new : List Written) (p : Passing P o table all rest position kept old new)
+pub block_next : (P : List MidiEvent → Type 0) (o : Options) (table : Targets) (all rest : List MidiEvent) (kept : Kept)
+    (old new : List Written) (p : Passing P o table all rest kept old new)
     (e : MidiEvent) (more : List MidiEvent) (z : ℕ) (block : List MidiEvent) → rest ≡ e ∷ more → z ≡ port_on p.front e
     → block ≡ blocks.written (live_block (lives (is_live o.route) o table (events_on z all)) (told_in kept z) e)
     → IsPut old (routed o table all) (block ++ later o table all p.front z (told_in kept) e more) new
-block_next P o table all rest position kept old new p e more z block is at same =
+block_next P o table all rest kept old new p e more z block is at same =
     let s = told_in kept in
     subst (λ l. IsPut old (routed o table all) l new)
     (ap (λ es. passed (is_live o.route) o table all (ports_from all_zero p.front) (length p.front) s es) is
@@ -93,18 +83,17 @@ block_next P o table all rest position kept old new p e more z block is at same 
     p.put
 
 -- it was put
-pub passes : (P Q : List MidiEvent → Type 0) (o : Options) (table : Targets) (all rest : List MidiEvent) (position : ℕ) (kept kept2 : Kept)
-    (old new new2 : List Written) (p : Passing P o table all rest position kept old new)
+pub passes : (P Q : List MidiEvent → Type 0) (o : Options) (table : Targets) (all rest : List MidiEvent) (kept kept2 : Kept)
+    (old new new2 : List Written) (p : Passing P o table all rest kept old new)
     (e : MidiEvent) (more : List MidiEvent) (z : ℕ) → rest ≡ e ∷ more → Q (p.front ++ e ∷ []) → told_in kept2
     ≡ next_states o table all z (told_in kept) e
     → IsPut old (routed o table all) (later o table all p.front z (told_in kept) e more) new2
-    → Passing Q o table all more (position + 1) kept2 old new2
-passes P Q o table all rest position kept kept2 old new new2 p e more z is stands states put =
+    → Passing Q o table all more kept2 old new2
+passes P Q o table all rest kept kept2 old new new2 p e more z is stands states put =
     let count : suc (length p.front) ≡ length (p.front ++ e ∷ []) = omega (arith, length-append p.front (e ∷ [])) in
     record {
       front = p.front ++ e ∷ [];
       split = p.split ∙ ap (λ l. p.front ++ l) is ∙ sym (append_assoc p.front (e ∷ []) more);
-      count = omega (arith, p.count, count);
       stands = stands;
       put = subst (λ l. IsPut old (routed o table all) l new2)
           (ap (λ ports. passed (is_live o.route) o table all ports (suc (length p.front)) (next_states o table all z (told_in kept) e) more)
@@ -116,59 +105,6 @@ passes P Q o table all rest position kept kept2 old new new2 p e more z is stand
     }
 
 -- ---- what the program has of the event
-
--- the next event of a source without a fault has none
-pub not_faulty : ((o : Options) (table : Targets) (front back : List MidiEvent) → IsFaultless o table (front ++ back) → IsFaultless o table front)
-    → (o : Options) (table : Targets) (all front : List MidiEvent) (e : MidiEvent) (more : List MidiEvent) → all ≡ front ++ e ∷ more
-    → IsFaultless o table all → fault_at o table (front ++ e ∷ []) (length front) ≡ None
-not_faulty fronts o table all front e more is h =
-    fronts o table (front ++ e ∷ []) more (subst (IsFaultless o table) (is ∙ sym (append_assoc front (e ∷ []) more)) h) (length front)
-    (omega (arith, length-append front (e ∷ [])))
-
-value_aimed : (o : Option ℕ) → value_in (on_tuning o) ≡ unwrap_or o 0
-value_aimed None = refl
-value_aimed (Some v) = refl
-
-aimed : (b : Option Bounds) → value_in (tuning_aim b) ≡ unwrap_or (tuning_if b) 0
-aimed None = refl
-aimed (Some b) = value_aimed (tuning_target b)
-
-aim_told : (o : Options) (table : Targets) (k t : ℕ) → bends_notes o.route ≡ false → ((key onset : ℕ) → table key onset ≡ table key 0)
-    → value_in (aim_in o table k t) ≡ told_value table k
-aim_told o table k t plain one = ap (λ (b : Bool). value_in (cond b (bend_aim o.range (table k t)) (tuning_aim (table k t)))) plain
-    ∙ ap (λ (b : Option Bounds). value_in (tuning_aim b)) (one k t) ∙ aimed (table k 0)
-
-never : (b : Option Begun) → told_if false b ≡ None
-never None = refl
-never (Some b) = refl
-
-nothing : (live : Bool) → told_if live None ≡ None
-nothing true = refl
-nothing false = refl
-
-note_told : (live part : Bool) (o : Options) (table : Targets) (z n t c k v : ℕ) → is_part o c ≡ part → value_in (aim_in o table k t)
-    ≡ told_value table k
-    → told_if live (begun_by o table z n t (Says (NoteOn c k (suc v)))) ≡ told_of live o table (Says (NoteOn c k (suc v)))
-note_told true true o table z n t c k v is aim = rw is (ap (λ (x : ℕ). Some (k, x)) aim)
-note_told true false o table z n t c k v is aim = rw is refl
-note_told false true o table z n t c k v is aim = never (begun_by o table z n t (Says (NoteOn c k (suc v))))
-note_told false false o table z n t c k v is aim = never (begun_by o table z n t (Says (NoteOn c k (suc v))))
-
--- what is told of a note that begins is what the table says of the message
-pub begun_told : (live : Bool) (o : Options) (table : Targets) (z n t : ℕ) (w : MidiWhat) → bends_notes o.route ≡ false
-    → ((key onset : ℕ) → table key onset ≡ table key 0)
-    → told_if live (begun_by o table z n t w) ≡ told_of live o table w
-begun_told live o table z n t (Says (NoteOn c k zero)) plain one = nothing live
-begun_told live o table z n t (Says (NoteOn c k (suc v))) plain one = note_told live (is_part o c) o table z n t c k v refl
-    (aim_told o table k t plain one)
-begun_told live o table z n t (Says (NoteOff c k v)) plain one = nothing live
-begun_told live o table z n t (Says (KeyPressure c k v)) plain one = nothing live
-begun_told live o table z n t (Says (Control c k v)) plain one = nothing live
-begun_told live o table z n t (Says (Program c v)) plain one = nothing live
-begun_told live o table z n t (Says (Pressure c v)) plain one = nothing live
-begun_told live o table z n t (Says (Bend c v)) plain one = nothing live
-begun_told live o table z n t (SysexOf lead bytes) plain one = nothing live
-begun_told live o table z n t (MetaOf kind bytes) plain one = nothing live
 
 -- keys and values that a message can say
 unfoldable IsSayable : Option (ℕ × ℕ) → Type 0
@@ -230,24 +166,17 @@ block_is d mask o table es s e told suits program is =
     ∙ block_same d mask (lives (is_live o.route) o table es) s e (told_value table) suits
     (λ k. ap (λ p. change_bytes p k (told_value table k)) (sym program))
 
--- the program's key and value are the message's
-pub told_is : (live : Bool) (o : Options) (table : Targets) (z n t : ℕ) (w : MidiWhat) (told : Option (ℕ × ℕ)) (begun : Option Begun)
-    → bends_notes o.route ≡ false → ((key onset : ℕ) → table key onset ≡ table key 0)
-    → begun ≡ begun_by o table z n t w → told ≡ told_if live begun → told ≡ told_of live o table w
-told_is live o table z n t w told begun plain one by is = is ∙ ap (λ (b : Option Begun). told_if live b) by
-    ∙ begun_told live o table z n t w plain one
-
 -- what the program puts for the event comes next
-pub turn : (P : List MidiEvent → Type 0) (o : Options) (table : Targets) (all rest : List MidiEvent) (position : ℕ) (kept : Kept)
-    (old new : List Written) (p : Passing P o table all rest position kept old new)
+pub turn : (P : List MidiEvent → Type 0) (o : Options) (table : Targets) (all rest : List MidiEvent) (kept : Kept)
+    (old new : List Written) (p : Passing P o table all rest kept old new)
     (e : MidiEvent) (more : List MidiEvent) (d : Device) (mask z : ℕ) (told : Option (ℕ × ℕ)) → rest ≡ e ∷ more → d.live ≡ is_live o.route
     → (d.live ≡ false → d.dump.items ≡ dump_of o table) → d.program ≡ o.program
     → mask < 2 ^ 16 → AllByRecursion IsValidEvent all → AreNoted o (events_on z all) mask → z ≡ port_on p.front e → told
     ≡ told_of (is_live o.route) o table e.what
     → IsPut old (routed o table all) (block_events d mask (told_in kept z).begun (due_if (told_in kept z).keys told) e ++ later o table all p.front z
     (told_in kept) e more) new
-turn P o table all rest position kept old new p e more d mask z told is live dump program fits valid noted at by =
-    block_next P o table all rest position kept old new p e more z
+turn P o table all rest kept old new p e more d mask z told is live dump program fits valid noted at by =
+    block_next P o table all rest kept old new p e more z
     (block_events d mask (told_in kept z).begun (due_if (told_in kept z).keys told) e) is at
     (block_is d mask o table (events_on z all) (told_in kept z) e told
     (device_suits d mask o table all z live dump program fits valid noted) program by)
@@ -259,10 +188,6 @@ keys_alone f (Some k) = refl
 pub key_is : (live : Bool) (o : Options) (table : Targets) (w : MidiWhat) (told : Option (ℕ × ℕ)) → told ≡ told_of live o table w
     → option_map (λ (x : ℕ × ℕ). x.0) told ≡ key_begun (λ c. live && is_part o c) w
 key_is live o table w told is = ap (option_map (λ (x : ℕ × ℕ). x.0)) is ∙ keys_alone (told_value table) (key_begun (λ c. live && is_part o c) w)
-
--- a fault of the source isn't told where there is none
-pub not_told : (f : StepFault) (x : SourceFault) → f ≡ Source x → source_of f ≡ None → ⊥
-not_told f x is none = let some : Some (fault_of x) ≡ None = ap source_of (sym is) ∙ none in absurd cc
 
 -- a key and value where a change is due
 pub due_keeps : (P : ℕ × ℕ → Type 0) (keys : ℕ → Bool) (told : Option (ℕ × ℕ)) → IfSome told P → IfSome (due_if keys told) P

@@ -1,5 +1,5 @@
 -- What is kept in mind of each port.
-use Rattle.std.specs.Prelude.{ℕ, suc, Bool, true, false, ◌&&◌, if◌then◌else◌, Option, Some, None, get_or, slice_index}
+use Rattle.std.specs.Prelude.{ℕ, suc, Bool, false, ◌&&◌, if◌then◌else◌, Option, Some, None, get_or, slice_index}
 use Rattle.std.specs.Option.{option_map}
 use Rattle.mt_base.specs.declared.event.Msg.TheVariants.{NoteOn}
 use Rattle.mt_base.specs.Midi.{MidiWhat, Says}
@@ -10,7 +10,6 @@ use Rattle.retune_model.specs.Dump.{told_value}
 use Rattle.key_pitch.specs.declared.aim.Aim.{Aim}
 use Rattle.key_pitch.specs.declared.aim.Aim.TheVariants.{Mts}
 use Rattle.receiver.specs.Notes.{has}
-use Rattle.lifetimes.specs.declared.change.Begun.{Begun}
 use Rattle.routes.specs.declared.kept.Kept.{Kept}
 
 -- whether a channel message of the port came, and of which keys a change was sent
@@ -22,16 +21,12 @@ abbrev pub key_begun : (ℕ → Bool) → MidiWhat → Option ℕ
 key_begun part (Says (NoteOn c k (suc v))) = if part c then Some k else None
 key_begun part _ = None
 
--- where a device is told key by key, the key of a note that begins, with the value of its target
+-- the value of a target that tells a device of a key, 0 where it has none
 abbrev pub value_in : Aim → ℕ
 value_in (Mts v) = v
 value_in _ = 0
 
-abbrev pub told_if : Bool → Option Begun → Option (ℕ × ℕ)
-told_if true (Some b) = Some (b.key, value_in b.target)
-told_if _ _ = None
-
--- the same of a message, by the table
+-- where a device is told key by key, the key of a note on of a retuned part, with the value of its target
 abbrev pub told_of : Bool → Options → Targets → MidiWhat → Option (ℕ × ℕ)
 told_of live o table w = option_map (λ k. (k, told_value table k)) (key_begun (λ c. live && is_part o c) w)
 

@@ -13,7 +13,7 @@ ghost use Rattle.std.specs.Option.{option_map};
 ghost use Rattle.midi_model.specs.Sysex.{doing};
 ghost use Rattle.retune_model.specs.PortOutput.{kept_for};
 ghost use Rattle.retune_model.specs.Routes.{Live, live_next};
-ghost use Rattle.routes.specs.Kept.{told_in, key_begun, told_if, due_if};
+ghost use Rattle.routes.specs.Kept.{told_in, key_begun, value_in, told_of, due_if};
 ghost use Rattle.routes.specs.Device.{dumps_of, setup_if, changes_in, is_first, resets_all, block_events};
 
 use crate::device::{Device, device_for, selections};
@@ -21,10 +21,9 @@ use crate::kept::{Kept, is_message, resets};
 use crate::putting::{put_messages, put_sysex};
 use event_stream::{EventStream, TrackSet};
 use key_pitch::{Aim, Aims};
-use lifetimes::{Begun, Noted, Parts, StepFault};
-use mt_base::{Event, Memory, What};
+use lifetimes::{Noted, Parts, Tracks};
+use mt_base::{Event, Memory, Msg, What};
 use mts_msg::note_change;
-use retune_model::front_faults;
 
 /// Whether a dump is due in a setup.
 fn is_dumped(live: bool, channels: u16) -> bool
@@ -145,16 +144,36 @@ fn put_block(
     put_setup(out, event, device, channels, again)
 }
 
-/// The key of a note that begins with the value of its target, where a device is told key by key.
-fn told_key(live: bool, begun: &Option<Begun>) -> Option<(u8, u32)>
-    ensures { result ≡ told_if live begun.now }
+/// The value of a target that tells a device of a key, 0 where it has none.
+fn value_of(target: Aim) -> u32
+    ensures { result ≡ value_in target }
 {
-    match begun {
-        Some(begun) if live => match begun.target {
-            Aim::Mts { value } => Some((begun.key, value)),
-            Aim::Unmapped | Aim::OutOfDevice | Aim::Bend { .. } => Some((begun.key, 0)),
-        },
-        Some(_) | None => None,
+    match target {
+        Aim::Mts { value } => value,
+        Aim::Unmapped | Aim::OutOfDevice | Aim::Bend { .. } => 0,
+    }
+}
+
+/// The key of a note on of a retuned part with the value of its target, where a device is told key by
+/// key.
+fn told_key<T: Aims>(live: bool, parts: &Parts<T>, event: &Event<'_>) -> Option<(u8, u32)>
+    requires valid { IsValidEvent (view event.now) }
+    requires one_table { (key onset : ℕ) → T.table (table_in parts.now) key onset
+        ≡ T.table (table_in parts.now) key 0 }
+    ensures { result ≡ told_of live (asked parts.now) (T.table (table_in parts.now))
+        (view event.now).what }
+{
+    match event.what {
+        What::Message(
+            Msg::NoteOn {
+                channel,
+                key,
+                velocity,
+            },
+        ) if live && velocity > 0 && parts.options().retunes(channel) => {
+            Some((key, value_of(parts.table().mts_aim(key, event.tick))))
+        }
+        _ => None,
     }
 }
 
@@ -249,21 +268,16 @@ pub fn translate<'a, S: EventStream<'a>, T: Aims>(
     ensures table { table_in parts.new ≡ table_in parts.old }
     ensures options { asked parts.new ≡ asked parts.old }
 {
-    front_faults();
     stream.rewind();
     let device = device_for(parts);
     let mut kept = Kept::new();
-    let mut position = 0;
+    let mut tracks = Tracks::new();
     'events: while let Some(event) = stream.next() {
-        position += 1;
-        let change = match parts.step(position, &event) {
-            Ok(change) => change,
-            Err(StepFault::Memory) => return Err(Memory),
-            Err(StepFault::Source(_)) => unreachable!(),
-        };
-        let told = told_key(device.live, &change.begun);
-        let channels = noted.parts(change.port);
-        pass_on(out, &event, &device, channels, change.port, told, &mut kept)?;
+        let port = tracks.port_of(&event);
+        tracks.take(&event);
+        let told = told_key(device.live, parts, &event);
+        let channels = noted.parts(port);
+        pass_on(out, &event, &device, channels, port, told, &mut kept)?;
     }
     Ok(())
 }

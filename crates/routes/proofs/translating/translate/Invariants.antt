@@ -1,23 +1,18 @@
 use Rattle.std.proofs.Common.{◌≡◌, ◌<◌, length}
 use Rattle.std.specs.List.{AllByRecursion}
 use Rattle.mt_base.specs.Valid.{IsValidEvent}
-use Rattle.midi_model.specs.Order.{AreInOrder}
-use Rattle.lifetimes.specs.Stands.{Stands, asked, table_in, position_of, tick_of}
+use Rattle.lifetimes.specs.Stands.{asked, table_in}
+use Rattle.lifetimes.specs.Tracks.{TracksStand}
 use Rattle.routes.proofs.Passing.{Passing}
 use Rattle.routes.proofs.translating.translate.Given as goal
 
 abbrev pub invariant-events : goal.invariant-events
 invariant-events g l = record {
   all : g.S.EventStream.all l.stream ≡ g.S.EventStream.all l.fn.stream;
-  table : table_in l.parts ≡ table_in l.fn.parts;
-  options : asked l.parts ≡ asked l.fn.parts;
-  at : position_of l.parts ≡ l.position;
-  order : AreInOrder (tick_of l.parts) (g.S.EventStream.rest l.stream);
   valid : AllByRecursion IsValidEvent (g.S.EventStream.rest l.stream);
   tracks : AllByRecursion (λ e. e.track < 1024) (g.S.EventStream.rest l.stream);
-  passing : Passing (Stands (g.T.Aims.table (table_in l.parts)) l.parts) (asked l.fn.parts) (g.T.Aims.table (table_in l.fn.parts))
-      (g.S.EventStream.all l.fn.stream)
-      (g.S.EventStream.rest l.stream) l.position l.kept l.fn.out l.out;
+  passing : Passing (TracksStand l.tracks) (asked l.fn.parts) (g.T.Aims.table (table_in l.fn.parts))
+      (g.S.EventStream.all l.fn.stream) (g.S.EventStream.rest l.stream) l.kept l.fn.out l.out;
 }
 
 abbrev pub decreases-events : goal.decreases-events
