@@ -1,4 +1,4 @@
-ghost use Rattle.std.specs.Prelude.{◌≡◌, ◌≢◌, ◌≤◌, ◌<◌, ◌+◌, ℕ, ℤ, Bool, slice_index, length, List, [], true, false, None, Some, IfSome, OnOk};
+ghost use Rattle.std.specs.Prelude.{replicate, ◌≡◌, ◌≢◌, ◌≤◌, ◌<◌, ◌+◌, ℕ, ℤ, Bool, slice_index, length, List, [], true, false, None, Some, IfSome, OnOk};
 ghost use Rattle.mt_base.specs.Midi.{MidiEvent, view_what};
 ghost use Rattle.mt_base.specs.Valid.{IsValidWhat};
 ghost use Rattle.retune_model.specs.Options.{Options};
@@ -223,8 +223,8 @@ impl Port {
         }
     }
 
-    /// Takes an event, and tells which notes ended by it. `strike` is the note that it begins, and
-    /// `note` the place of that note among all retuned notes.
+    /// Takes an event, and sets the bits of the notes that ended by it; no bit is set before. `strike`
+    /// is the note that it begins, and `note` the place of that note among all retuned notes.
     pub fn step(
         &mut self,
         tick: u32,
@@ -232,7 +232,8 @@ impl Port {
         tail: u32,
         strike: &Option<Strike>,
         note: u32,
-    ) -> Ends
+        ends: &mut Ends,
+    )
         requires valid { IsValidWhat (view_what what.now) }
         requires key { IfSome strike.now (λ s. s.key < 128) }
         requires room { HasRoom self.old.player (view_what what.now) }
@@ -240,16 +241,16 @@ impl Port {
         requires kept { IsKept tail self.old }
         requires place { HasPlace tail self.old strike.now }
         requires alone { is_reset_of (view_what what.now) ≡ true → strike.now ≡ None }
-        ensures takes { Takes tail tick (view_what what.now) strike.now note self.old result self.new }
+        requires clear { ends.old.keys ≡ replicate 16 0 }
+        ensures takes { Takes tail tick (view_what what.now) strike.now note self.old ends.new self.new }
         ensures kept { IsKept tail self.new }
         ensures begun { begun_in self.new.player ≤ begun_in self.old.player + 1 }
     {
-        let ends = self.player.step(tick, what);
-        self.let_go(what, &ends, tick, tail);
+        self.player.step_into(tick, what, ends);
+        self.let_go(what, ends, tick, tail);
         self.begin(strike, note);
         // The pair of a note that begins stays, also where its rest runs out at this very tick.
         self.run_out(tick, tail);
-        ends
     }
 }
 

@@ -1,4 +1,4 @@
-ghost use Rattle.std.specs.Prelude.{◌≡◌, ◌≤◌, ◌<◌, ◌++◌, [], ◌∷◌, ℕ, suc, length, not, true, List, Some, None, OnOk, OnErr, IfOk, IfErr, IfSome, IfNone};
+ghost use Rattle.std.specs.Prelude.{replicate, ◌≡◌, ◌≤◌, ◌<◌, ◌++◌, [], ◌∷◌, ℕ, suc, length, not, true, List, Some, None, OnOk, OnErr, IfOk, IfErr, IfSome, IfNone};
 ghost use Rattle.mt_base.specs.Midi.{MidiEvent, MidiWhat, Says, channel_of, view, view_what};
 ghost use Rattle.mt_base.specs.Valid.{IsValidEvent, IsValidMsg};
 ghost use Rattle.retune_model.specs.Ports.{port_at};
@@ -180,8 +180,9 @@ impl Source {
         }
     }
 
-    /// The port at a place takes an event, where there is one that hears it.
-    fn hear(&mut self, place: usize, event: &Event<'_>, strike: &Option<Strike>) -> Ends
+    /// The port at a place takes an event, where there is one that hears it, and sets the bits of the
+    /// notes that ended by it; no bit is set before.
+    fn hear(&mut self, place: usize, event: &Event<'_>, strike: &Option<Strike>, ends: &mut Ends)
         requires valid { IsValidEvent (view event.now) }
         requires key { IfSome strike.now (λ s. s.key < 128) }
         requires alone { is_reset_of (view event.now).what ≡ true → strike.now ≡ None }
@@ -191,18 +192,19 @@ impl Source {
             → AllByRecursion (λ p. HasRoom p.player (view event.now).what) (port_in self.old place) }
         requires place { AllByRecursion (λ p. HasPlace self.old.options.tail p strike.now)
             (port_in self.old place) }
-        ensures hears { Hears place (view event.now) strike.now result self.old self.new }
+        requires clear { ends.old.keys ≡ replicate 16 0 }
+        ensures hears { Hears place (view event.now) strike.now ends.new self.old self.new }
     {
         if place < self.used && !self.is_kept_drum(&event.what) {
             let tail = self.options.tail;
-            self.ports[place].step(event.tick, &event.what, tail, strike, self.begun)
-        } else {
-            Ends { keys: [0; 16] }
+            let note = self.begun;
+            self.ports[place].step(event.tick, &event.what, tail, strike, note, ends);
         }
     }
 
-    /// Takes an event without a fault.
-    fn take(&mut self, port: u8, event: &Event<'_>, strike: &Option<Strike>) -> Ends
+    /// Takes an event without a fault, and sets the bits of the notes that ended by it; no bit is set
+    /// before.
+    fn take(&mut self, port: u8, event: &Event<'_>, strike: &Option<Strike>, ends: &mut Ends)
         requires valid { IsValidEvent (view event.now) }
         requires track { event.now.track < 1024 }
         requires key { IfSome strike.now (λ s. s.key < 128) }
@@ -210,6 +212,7 @@ impl Source {
         requires next { self.old.position < 4294967295 }
         requires can { CanTake self.old port (view event.now).what }
         requires place { HasPlaceIn self.old port strike.now }
+        requires clear { ends.old.keys ≡ replicate 16 0 }
         ensures stands { (table : Targets) (es : List MidiEvent)
             → ComesNext table self.old es (view event.now) port strike.now
             → fault_at (options_of self.old.options) table (es ++ view event.now ∷ []) (length es)
@@ -217,7 +220,7 @@ impl Source {
         ensures ended { (table : Targets) (es : List MidiEvent)
             → ComesNext table self.old es (view event.now) port strike.now
             → fault_at (options_of self.old.options) table (es ++ view event.now ∷ []) (length es)
-            ≡ None → TellsEnds (options_of self.old.options) es (view event.now) result }
+            ≡ None → TellsEnds (options_of self.old.options) es (view event.now) ends.new }
         ensures position { self.new.position ≡ suc self.old.position }
         ensures tick { self.new.tick ≡ event.now.tick }
         ensures options { self.new.options ≡ self.old.options }
@@ -231,7 +234,7 @@ impl Source {
         sound_sources();
         let place = self.open(port, &event.what);
         self.count(event, strike);
-        self.hear(place, event, strike)
+        self.hear(place, event, strike, ends);
     }
 }
 
@@ -300,7 +303,8 @@ impl<T: Aims> Parts<T> {
             }));
         }
         self.source.admit(port, &strike)?;
-        let ended = self.source.take(port, event, &strike);
+        let mut ended = Ends { keys: [0; 16] };
+        self.source.take(port, event, &strike, &mut ended);
         let begun = begun_by(port, self.source.begun, &strike);
         Ok(Change { begun, ended, port })
     }

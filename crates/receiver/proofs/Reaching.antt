@@ -209,3 +209,7 @@ ended_mask i before now s c k was is msg low fits below e hb hn hs =
     ∙ has_ended before now s k (strikes_by msg c k) fits below hs
     ∙ ap (λ b. b && (strikes_by msg c k || not (has now k))) hb
     ∙ ap (λ b. is_some was && (strikes_by msg c k || not b)) hn
+
+-- no bit was set before
+pub masked : (keys : List ℕ) (i x c k : ℕ) (b : Bool) → keys ≡ replicate 16 0 → has (get_or (set (replicate 16 0) i x) c 0) k ≡ b → has (get_or (set keys i x) c 0) k ≡ b
+masked keys i x c k b clear is = ap (λ l. has (get_or (set l i x) c 0) k) clear ∙ is

@@ -1,4 +1,4 @@
-ghost use Rattle.std.specs.Prelude.{◌≡◌, ◌≢◌, ◌<◌, ◌≤◌, ◌+◌, ℕ, false, is_some, slice_index};
+ghost use Rattle.std.specs.Prelude.{◌≡◌, ◌≢◌, ◌<◌, ◌≤◌, ◌+◌, ℕ, false, replicate, is_some, slice_index};
 ghost use Rattle.mt_base.specs.Midi.{Says, channel_of};
 ghost use Rattle.mt_base.specs.Valid.{IsValidMsg};
 ghost use Rattle.midi_model.specs.Sysex.{Plays};
@@ -52,24 +52,23 @@ impl Player {
         self.settle_one(message.channel());
     }
 
-    /// The same, with the notes that ended by it.
-    pub(crate) fn step_here(&mut self, tick: u32, message: &Msg) -> Ends
+    /// The same, with the notes that ended by it. No bit is set before.
+    pub(crate) fn step_here(&mut self, tick: u32, message: &Msg, ends: &mut Ends)
         requires valid { IsValidMsg message.now }
         requires room { HasRoom self.old (Says message.now) }
         requires few { self.old.begun < 4294967295 }
         requires narrow { is_wide message.now ≡ false }
+        requires clear { ends.old.keys ≡ replicate 16 0 }
         ensures follows { IsCalm self.old → FollowsBy self.old tick (Plays message.now) self.new }
-        ensures tells { TellsBy self.old (Plays message.now) self.new result }
+        ensures tells { TellsBy self.old (Plays message.now) self.new ends.new }
         ensures alone { (c k : ℕ) → c < 16 → k < 128 → c ≢ channel_of message.now
-            → has (slice_index result.keys c) k ≡ false }
+            → has (slice_index ends.new.keys c) k ≡ false }
         ensures begun { self.new.begun ≤ self.old.begun + 1 }
     {
         let place = channel_number(message);
         let before = self.keys_on(place);
         self.play_here(tick, message);
         let now = self.keys_on(place);
-        let mut keys = [0; 16];
-        keys[place as usize] = before & (!now | key_struck(message, place));
-        Ends { keys }
+        ends.keys[place as usize] = before & (!now | key_struck(message, place));
     }
 }

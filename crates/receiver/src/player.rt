@@ -174,6 +174,30 @@ impl Player {
         self.ended(before, what)
     }
 
+    /// Takes an event at its tick, and sets the bits of the notes that ended by it; no bit is set
+    /// before. The event has room, and fewer than 4,294,967,295 notes began before it.
+    pub fn step_into(&mut self, tick: u32, what: &What<'_>, ends: &mut Ends)
+        requires valid { IsValidWhat (view_what what.now) }
+        requires room { HasRoom self.old (view_what what.now) }
+        requires few { begun_in self.old < 4294967295 }
+        requires clear { ends.old.keys ≡ replicate 16 0 }
+        ensures stands { (es : List MidiEvent) (e : MidiEvent) → PlayerStands self.old es
+            → e.tick ≡ tick → e.what ≡ view_what what.now → PlayerStands self.new (es ++ e ∷ []) }
+        ensures ends { (es : List MidiEvent) (e : MidiEvent) → PlayerStands self.old es
+            → e.tick ≡ tick → e.what ≡ view_what what.now
+            → TellsEnded ends.new (after es).music.notes (after (es ++ e ∷ [])).music.notes }
+        ensures spares { (c k : ℕ) → c < 16 → k < 128 → spares (view_what what.now) c ≡ true
+            → has (slice_index ends.new.keys c) k ≡ false }
+        ensures begun { begun_in self.new ≤ begun_in self.old + 1 }
+    {
+        music_laws();
+        receiver_laws();
+        match *what {
+            What::Message(ref message) if !is_wide(message) => self.step_here(tick, message, ends),
+            _ => *ends = self.step_all(tick, what),
+        }
+    }
+
     /// Takes an event at its tick, and tells which notes ended by it. The event has room, and fewer
     /// than 4,294,967,295 notes began before it.
     pub fn step(&mut self, tick: u32, what: &What<'_>) -> Ends
@@ -185,15 +209,10 @@ impl Player {
         ensures ends { (es : List MidiEvent) (e : MidiEvent) → PlayerStands self.old es
             → e.tick ≡ tick → e.what ≡ view_what what.now
             → TellsEnded result (after es).music.notes (after (es ++ e ∷ [])).music.notes }
-        ensures spares { (c k : ℕ) → c < 16 → k < 128 → spares (view_what what.now) c ≡ true
-            → has (slice_index result.keys c) k ≡ false }
         ensures begun { begun_in self.new ≤ begun_in self.old + 1 }
     {
-        music_laws();
-        receiver_laws();
-        match *what {
-            What::Message(ref message) if !is_wide(message) => self.step_here(tick, message),
-            _ => self.step_all(tick, what),
-        }
+        let mut ends = Ends { keys: [0; 16] };
+        self.step_into(tick, what, &mut ends);
+        ends
     }
 }

@@ -98,9 +98,9 @@ returns-clause-change g c es s =
       begins = subst (λ p. c.strike-strike.result ≡ strike_of p table e.tick e.what) (sym same) c.strike-strike.ensures;
     } in
     let fine = ap (λ p. fault_at p table (es ++ e ∷ []) (length es)) same ∙ none in
-    let stands = c.take-ended.ensures.stands table es then fine in
-    let counted : c.take-ended.new.self.begun ≡ count_begun o (es ++ e ∷ []) = stands.begun ∙ ap (λ p. count_begun p (es ++ e ∷ [])) (ap options_of c.take-ended.ensures.options ∙ same) in
-    let one : is_some c.strike-strike.result ≡ true → c.take-ended.new.self.begun ≡ suc (count_begun o es) = (λ is.
+    let stands = c.take.ensures.stands table es then fine in
+    let counted : c.take.new.self.begun ≡ count_begun o (es ++ e ∷ []) = stands.begun ∙ ap (λ p. count_begun p (es ++ e ∷ [])) (ap options_of c.take.ensures.options ∙ same) in
+    let one : is_some c.strike-strike.result ≡ true → c.take.new.self.begun ≡ suc (count_begun o es) = (λ is.
     counted ∙ count_next o es e
     ∙ ap (λ b. cond b 1 0 + count_begun o es) (sym (strike_counts o table e.tick e.what) ∙ ap is_some (sym c.strike-strike.ensures) ∙ is)
     ∙ plus_one (count_begun o es)) in
@@ -108,11 +108,11 @@ returns-clause-change g c es s =
       port = at;
       begun =
           c.begun_by-begun.ensures
-          ∙ same_note c.port_of-port.result c.take-ended.new.self.begun (suc (count_begun o es)) c.strike-strike.result one
+          ∙ same_note c.port_of-port.result c.take.new.self.begun (suc (count_begun o es)) c.strike-strike.result one
           ∙ ap (begun_of c.port_of-port.result (suc (count_begun o es))) c.strike-strike.ensures
           ∙ begun_told o table c.port_of-port.result (suc (count_begun o es)) e.tick e.what
           ∙ ap (λ z. begun_by o table z (suc (count_begun o es)) e.tick e.what) at;
-      ended = subst (λ p. TellsEnds p es e c.take-ended.result) same (c.take-ended.ensures.ended table es then fine);
+      ended = subst (λ p. TellsEnds p es e c.take.new.ends) same (c.take.ensures.ended table es then fine);
     }
 
 pub returns-clause-stands : goal.returns-clause-stands
@@ -141,4 +141,4 @@ returns-clause-stands g c es s =
       begins = subst (λ p. c.strike-strike.result ≡ strike_of p table e.tick e.what) (sym same) c.strike-strike.ensures;
     } in
     let fine = ap (λ p. fault_at p table (es ++ e ∷ []) (length es)) same ∙ none in
-    c.take-ended.ensures.stands table es then fine
+    c.take.ensures.stands table es then fine

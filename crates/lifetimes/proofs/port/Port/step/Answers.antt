@@ -16,7 +16,7 @@ returns c =
     let what = view_what c.args.what.now in
     let reset = is_reset_of what in
     let strike = c.args.strike.now in
-    let ends = c.step-ends.result in
+    let ends = c.step_into.new.ends in
     let tick = c.args.tick in
     let tail = c.args.tail in
     let which : ℕ → ℕ → Bool = λ d. has (slice_index ends.keys d) in
@@ -35,8 +35,8 @@ returns c =
       takes = record {
         number = c.run_out.ensures.number ∙ (c.begin.ensures.number ∙ c.let_go.ensures.number);
         plays = λ es e st t w. record {
-          stands = subst (λ r. PlayerStands r (es ++ e ∷ [])) (sym player) (c.step-ends.ensures.stands es e st t w);
-          ends = c.step-ends.ensures.ends es e st t w;
+          stands = subst (λ r. PlayerStands r (es ++ e ∷ [])) (sym player) (c.step_into.ensures.stands es e st t w);
+          ends = c.step_into.ensures.ends es e st t w;
         };
         struck = λ d k low below.
             ap (λ ss. struck_at ss k) (forgotten_struck tick tail begun new lb ln lost d low)
@@ -61,5 +61,5 @@ returns c =
       kept = forgotten_kept tick tail begun new lb ln lost tail
           (c.begin.ensures.kept tail (ended_place reset which tick tail old mid lo lm gone strike c.requires.alone c.requires.place)
           (ended_kept reset which tick tail old mid lo lm gone c.requires.kept));
-      begun = subst (λ r. begun_in r ≤ begun_in old.player + 1) (sym player) c.step-ends.ensures.begun;
+      begun = subst (λ r. begun_in r ≤ begun_in old.player + 1) (sym player) c.step_into.ensures.begun;
     }

@@ -54,10 +54,10 @@ returns-then-not-is_kept_drum c =
       hears = record {
         takes = λ is d.
             subst (λ q. Takes c.args.self.now.options.tail c.args.event.now.tick
-            (view c.args.event.now).what c.args.strike.now c.args.self.now.begun (slice_index_or ports place d) c.step.result q)
+            (view c.args.event.now).what c.args.strike.now c.args.self.now.begun (slice_index_or ports place d) c.step.new.ends q)
             (sym (get_or-set_same ports place new d within))
             (subst (λ p. Takes c.args.self.now.options.tail c.args.event.now.tick
-            (view c.args.event.now).what c.args.strike.now c.args.self.now.begun p c.step.result new)
+            (view c.args.event.now).what c.args.strike.now c.args.self.now.begun p c.step.new.ends new)
             (get_or_default ports place c.index-self-place.result d within) c.step.ensures.takes);
         alone = λ is d. ap (set ports place) (sym (get_or-set_same ports place new d within));
         passed = λ is. absurd (both_ways _ is yes);

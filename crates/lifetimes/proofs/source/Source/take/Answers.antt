@@ -43,7 +43,7 @@ hear-requires-clause-place c =
 -- the steps, as the program takes them
 stepped : (c : goal.After-hear) (table : Targets) (es : List MidiEvent) → ComesNext table c.args.self.now es (view c.args.event.now) c.args.port c.args.strike.now
     → fault_at (options_of c.args.self.now.options) table (es ++ view c.args.event.now ∷ []) (length es) ≡ None
-    → IsStepped table es (view c.args.event.now) c.args.port c.args.strike.now c.open-place.result c.hear.result
+    → IsStepped table es (view c.args.event.now) c.args.port c.args.strike.now c.open-place.result c.hear.new.ends
     c.args.self.now c.open-place.new.self c.count.new.self c.hear.new.self
 stepped c table es next none =
     let old = c.args.self.now in
@@ -80,10 +80,10 @@ a_port c = some_port c.args.self.now.ports (let four : length c.args.self.now.po
 
 pub returns-clause-stands : goal.returns-clause-stands
 returns-clause-stands c = λ table es next none.
-    source_next (laws c) c.sound_sources.ensures.fine table es (view c.args.event.now) c.args.port c.args.strike.now c.open-place.result c.hear.result
+    source_next (laws c) c.sound_sources.ensures.fine table es (view c.args.event.now) c.args.port c.args.strike.now c.open-place.result c.hear.new.ends
     c.args.self.now c.open-place.new.self c.count.new.self c.hear.new.self (stepped c table es next none) (a_port c)
 
 pub returns-clause-ended : goal.returns-clause-ended
 returns-clause-ended c = λ table es next none.
-    source_tells (laws c) c.sound_sources.ensures.fine table es (view c.args.event.now) c.args.port c.args.strike.now c.open-place.result c.hear.result
+    source_tells (laws c) c.sound_sources.ensures.fine table es (view c.args.event.now) c.args.port c.args.strike.now c.open-place.result c.hear.new.ends
     c.args.self.now c.open-place.new.self c.count.new.self c.hear.new.self (stepped c table es next none) (a_port c)

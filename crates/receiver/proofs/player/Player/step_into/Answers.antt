@@ -6,7 +6,7 @@ use Rattle.receiver.specs.Stands.{HasRoom}
 use Rattle.receiver.specs.Turns.{begins}
 use Rattle.receiver.proofs.Calm.{calm_of}
 use Rattle.receiver.proofs.Stepping.{stands_then, tells_then, one_more}
-use Rattle.receiver.proofs.player.Player.step.Goals as goal
+use Rattle.receiver.proofs.player.Player.step_into.Goals as goal
 
 pub returns-in-Message-clause-stands : goal.returns-in-Message-clause-stands
 returns-in-Message-clause-stands c es e h at is =
@@ -20,7 +20,7 @@ pub returns-in-Message-clause-ends : goal.returns-in-Message-clause-ends
 returns-in-Message-clause-ends c es e h at is =
     let r = c.args.self.now in
     let says : e.what ≡ Says c.in-Message.message = is ∙ ap view_what c.in-Message.is in
-    tells_then r c.step_here.new.self c.step_here.result c.args.tick es e (Says c.in-Message.message) h (c.step_here.ensures.follows (calm_of r es h c.music_laws.ensures.settled)) c.step_here.ensures.tells at says
+    tells_then r c.step_here.new.self c.step_here.new.ends c.args.tick es e (Says c.in-Message.message) h (c.step_here.ensures.follows (calm_of r es h c.music_laws.ensures.settled)) c.step_here.ensures.tells at says
     (c.receiver_laws.ensures.one_note es)
 
 pub returns-in-Message-clause-begun : goal.returns-in-Message-clause-begun
