@@ -1,4 +1,4 @@
-ghost use Rattle.std.specs.Prelude.{◌≡◌, ◌≤◌, ◌<◌, ℕ, List, [], ◌∷◌, length, false, not, ◌&&◌, nat_eq, OnOk, OnErr, IfSome};
+ghost use Rattle.std.specs.Prelude.{◌≡◌, ◌≤◌, ◌<◌, ℕ, List, [], ◌∷◌, length, true, false, not, ◌&&◌, nat_eq, OnOk, OnErr, IfSome};
 ghost use Rattle.std.specs.List.{AllByRecursion};
 ghost use Rattle.mt_base.specs.Midi.{view, view_what};
 ghost use Rattle.mt_base.specs.Valid.{IsValidEvent};
@@ -53,8 +53,26 @@ fn put_dump(
     }
 }
 
-/// Puts the setup at an event's tick into its track, if it is wanted: the dump, then the selections.
-/// On `Memory` a front of it was put.
+/// Puts the setup at an event's tick into its track: the dump, then the selections. On `Memory` a
+/// front of it was put.
+// It is seldom wanted, and its messages stand on its stack: a caller into which it were inlined would
+// pay for that at each event.
+#[inline(never)]
+fn set_up(out: &mut TrackSet, at: &Event<'_>, device: &Device, channels: u16) -> Result<(), Memory>
+    requires program { device.now.program ≤ 127 }
+    requires may { AllMayPut out.old (setup_if true device.now channels (view at.now)) }
+    ensures put { OnOk result
+        (out.new ≡ put_all out.old (setup_if true device.now channels (view at.now))) }
+    ensures front { OnErr result
+        (IsFront out.old (setup_if true device.now channels (view at.now)) out.new) }
+{
+    put_dump(out, at, device, channels)?;
+    let messages = selections(channels, device.program);
+    put_messages(out, at, messages.as_slice())
+}
+
+/// The same, if it is wanted.
+#[inline]
 fn put_setup(
     out: &mut TrackSet,
     at: &Event<'_>,
@@ -70,9 +88,7 @@ fn put_setup(
         (IsFront out.old (setup_if wanted device.now channels (view at.now)) out.new) }
 {
     if wanted {
-        put_dump(out, at, device, channels)?;
-        let messages = selections(channels, device.program);
-        put_messages(out, at, messages.as_slice())
+        set_up(out, at, device, channels)
     } else {
         Ok(())
     }
