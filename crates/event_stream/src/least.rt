@@ -169,9 +169,6 @@ fn beside(tree: &[u64], at: usize) -> u64
     ensures even { at % 2 ≡ 0 → result ≡ slice_index tree.now (at + 1) }
     ensures odd { at % 2 ≡ 1 → result ≡ slice_index tree.now (at - 1) }
 {
-    if at % 2 == 0 {
-        tree[at + 1]
-    } else {
-        tree[at - 1]
-    }
+    // Without a branch: the odd place after an even one, and the even place before an odd one.
+    tree[at / 2 * 2 + 1 - at % 2]
 }
