@@ -42,7 +42,7 @@ impl Notes {
 
     /// The notes ended on the keys that bits of a mask stand for. The ends of those that rest are
     /// put into the queue, which has room for them.
-    pub fn end_all(
+    fn end_each(
         &mut self,
         keys: u128,
         channel: Channel,
@@ -67,6 +67,24 @@ impl Notes {
                 );
             }
             rest &= !(1u128 << key);
+        }
+    }
+
+    /// The same, where a key is told at all: of most channels none is.
+    #[inline]
+    pub fn end_all(
+        &mut self,
+        keys: u128,
+        channel: Channel,
+        tick: u32,
+        tail: u32,
+        queue: &mut VecDeque<Ended>,
+    )
+        requires { IsPartKept tail self.old }
+        ensures { PartEnds false (has keys) tick tail self.old self.new }
+    {
+        if keys != 0 {
+            self.end_each(keys, channel, tick, tail, queue);
         }
     }
 

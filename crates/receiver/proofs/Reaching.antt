@@ -1,7 +1,7 @@
 -- A message that reaches the notes of its own channel alone, in a player in which no note is left that nothing holds.
-use Rattle.std.proofs.Common.{◌≡◌, ◌≢◌, ◌<◌, ◌+◌, ◌^◌, ℕ, zero, suc, List, [], ◌∷◌, Bool, true, false, cond, ◌&&◌, ◌||◌, not, nat_eq, None, refl, ap, sym, ◌∙◌, get_or, set, replicate, is_some, bit_and, bit_or, inl, inr}
-use Rattle.std.proofs.lemmas.Bool.{ne_eqb}
-use Rattle.std.proofs.lemmas.Bool.Decides.{eqb_tells}
+use Rattle.std.proofs.Common.{◌-◌, ◌⊎◌, nat_le, nat_lt, arith, ◌≡◌, ◌≢◌, ◌<◌, ◌+◌, ◌^◌, ℕ, zero, suc, List, [], ◌∷◌, Bool, true, false, cond, ◌&&◌, ◌||◌, not, nat_eq, None, refl, ap, sym, ◌∙◌, get_or, set, replicate, is_some, bit_and, bit_or, inl, inr}
+use Rattle.std.proofs.lemmas.Bool.{ne_eqb, eqb-true}
+use Rattle.std.proofs.lemmas.Bool.Decides.{eqb_tells, leb_tells}
 use Rattle.std.proofs.lemmas.List.{get_or-set_same, get_or-set_other, get_or-replicate}
 use Rattle.std.specs.Int.{bit_not, w128}
 use Rattle.mt_base.specs.Midi.{channel_of}
@@ -9,14 +9,14 @@ use Rattle.mt_base.specs.declared.event.Msg.{Msg}
 use Rattle.mt_base.specs.declared.event.Msg.TheVariants.{NoteOn, NoteOff, KeyPressure, Control, Program, Pressure, Bend}
 use Rattle.midi_model.specs.Channel.{Channel, Role, Stored, EntryHigh, EntryLow, NrpnLow, NrpnHigh, RpnLow, RpnHigh, AllSoundOff, ResetControllers, AllNotesOff, Ignored, control_of, controlled, role, apply, default_channel}
 use Rattle.midi_model.specs.Sysex.{Plays}
-use Rattle.midi_model.specs.Zones.{governor, zones_with, bend_ranges}
+use Rattle.midi_model.specs.Zones.{Zones, governor, zones_with, bend_ranges}
 use Rattle.midi_model.specs.Notes.{Note, sounds, is_at, is_pedal_down, releasing}
 use Rattle.midi_model.specs.Music.{Music, asked_by, asks, zones_after, channels_after, settle_note}
 use Rattle.receiver.specs.declared.player.Player.{Player}
 use Rattle.receiver.specs.Heard.{without_pedal}
 use Rattle.receiver.specs.Following.{SlotsBecome}
 use Rattle.receiver.specs.Notes.{has}
-use Rattle.receiver.specs.Reach.{is_wide_role, is_wide, IsCalm}
+use Rattle.receiver.specs.Reach.{is_wide_role, is_wide, is_hold, is_own, IsCalm}
 use Rattle.receiver.specs.Stands.{slot, states_of, set_up_of}
 use Rattle.receiver.specs.Turns.{kept, only_on, settled_by, turned, acted, sounding_after, strikes_by}
 use Rattle.receiver.specs.Zones.{zones_in}
@@ -128,29 +128,109 @@ pedal_stays m msg g e =
     ap (λ a. control_of (get_or (bend_ranges a (zones_with a m.zones) (set m.channels c x)) g default_channel) 64) (asks_narrow m msg e)
     ∙ same_at (λ s. control_of s 64) m.channels c g x default_channel (apply_pedal (get_or m.channels c default_channel) msg e)
 
+-- ---- the hold pedal, where no zone is set
+off_governor : (z : Zones) (d : ℕ) → z.lower ≡ 0 → z.upper ≡ 0 → governor z d ≡ d
+off_governor z d low up = rw (below, above) refl
+  where
+    below : (nat_le 1 d && nat_le d z.lower) ≡ false
+    below = elim (leb_tells 1 d) [
+      | inl t ↦ elim (leb_tells d z.lower) [
+        | inl u ↦ absurd (omega (arith, t.1, u.1, low))
+        | inr u ↦ rw (t.0, u.0) refl
+      ]
+      | inr t ↦ rw t.0 refl
+    ]
+
+    above : (nat_le (15 - z.upper) d && nat_lt d 15) ≡ false
+    above = elim (leb_tells (15 - z.upper) d) [
+      | inl t ↦ elim (leb_tells (suc d) 15) [
+        | inl u ↦ absurd (omega (arith, t.1, u.1, up))
+        | inr u ↦ rw (t.0, u.0) refl
+      ]
+      | inr t ↦ rw t.0 refl
+    ]
+
+acted_hold : (m : Music) (next t : ℕ) (msg : Msg) (d j : ℕ) (o : Slot) → is_hold msg ≡ true → acted m next t msg d j o ≡ o
+acted_hold m next t (Control c n v) d j o h = ap (λ k. turned m t c k v (role k) o) (eqb-true n 64 h)
+acted_hold m next t (NoteOn c k v) d j o h = absurd cc
+acted_hold m next t (NoteOff c k v) d j o h = absurd cc
+acted_hold m next t (KeyPressure c k v) d j o h = absurd cc
+acted_hold m next t (Program c p) d j o h = absurd cc
+acted_hold m next t (Pressure c v) d j o h = absurd cc
+acted_hold m next t (Bend c v) d j o h = absurd cc
+
+asks_hold : (m : Music) (msg : Msg) → is_hold msg ≡ true → asks m msg ≡ None
+asks_hold m (Control c n v) h = ap (λ k. asked_by m c v (role k)) (eqb-true n 64 h)
+asks_hold m (NoteOn c k v) h = absurd cc
+asks_hold m (NoteOff c k v) h = absurd cc
+asks_hold m (KeyPressure c k v) h = absurd cc
+asks_hold m (Program c p) h = absurd cc
+asks_hold m (Pressure c v) h = absurd cc
+asks_hold m (Bend c v) h = absurd cc
+
+abbrev AreOff : Zones → Type 0
+AreOff z = (z.lower ≡ 0) × (z.upper ≡ 0)
+
+own_kind : (z : Zones) (msg : Msg) → is_own z msg ≡ true → (is_wide msg ≡ false) ⊎ ((is_hold msg ≡ true) × AreOff z)
+own_kind z msg own = pick (is_wide msg) (is_hold msg) (nat_eq z.lower 0) (nat_eq z.upper 0) refl refl refl refl own
+  where
+    pick : (a b c d : Bool) → is_wide msg ≡ a → is_hold msg ≡ b → nat_eq z.lower 0 ≡ c → nat_eq z.upper 0 ≡ d → (not a || (b && (c && d))) ≡ true
+        → (is_wide msg ≡ false) ⊎ ((is_hold msg ≡ true) × AreOff z)
+    pick false b c d wide hold low up e = inl wide
+    pick true true true true wide hold low up e = inr (hold, (eqb-true z.lower 0 low, eqb-true z.upper 0 up))
+    pick true true true false wide hold low up e = absurd cc
+    pick true true false d wide hold low up e = absurd cc
+    pick true false c d wide hold low up e = absurd cc
+
+-- ---- both kinds
+acted_own : (m : Music) (next t : ℕ) (msg : Msg) (d j : ℕ) (o : Slot) → is_own m.zones msg ≡ true → IsHere d j o → d ≢ channel_of msg
+    → acted m next t msg d j o ≡ o
+acted_own m next t msg d j o own h apart = elim (own_kind m.zones msg own) [
+  | inl e ↦ acted_elsewhere m next t msg d j o e h apart
+  | inr e ↦ acted_hold m next t msg d j o e.0
+]
+
+asks_own : (m : Music) (msg : Msg) → is_own m.zones msg ≡ true → asks m msg ≡ None
+asks_own m msg own = elim (own_kind m.zones msg own) [
+  | inl e ↦ asks_narrow m msg e
+  | inr e ↦ asks_hold m msg e.0
+]
+
+pedal_elsewhere : (m : Music) (msg : Msg) (d : ℕ) → is_own m.zones msg ≡ true → d ≢ channel_of msg
+    → control_of (get_or (channels_after m msg) (governor m.zones d) default_channel) 64 ≡ control_of (get_or m.channels (governor m.zones d) default_channel) 64
+pedal_elsewhere m msg d own apart = elim (own_kind m.zones msg own) [
+  | inl e ↦ pedal_stays m msg (governor m.zones d) e
+  | inr e ↦ (let c : ℕ = channel_of msg in
+      let g : ℕ = governor m.zones d in
+      let x : Channel = apply (get_or m.channels c default_channel) msg in
+      let there : g ≡ d = off_governor m.zones d e.1.0 e.1.1 in
+      ap (λ a. control_of (get_or (bend_ranges a (zones_with a m.zones) (set m.channels c x)) g default_channel) 64) (asks_hold m msg e.0)
+      ∙ ap (λ s. control_of s 64) (get_or-set_other m.channels c g x default_channel (λ same. apart (sym there ∙ same))))
+]
+
 -- so what nothing holds after it was held by nothing before
-settled_same : (m : Music) (msg : Msg) (t d k : ℕ) (o : Slot) → is_wide msg ≡ false → IsHere d k o
+settled_same : (m : Music) (msg : Msg) (t d k : ℕ) (o : Slot) → is_own m.zones msg ≡ true → d ≢ channel_of msg → IsHere d k o
     → kept (settle_note (channels_after m msg) (zones_after m msg) t) o ≡ kept (settle_note m.channels m.zones t) o
-settled_same m msg t d k o e h =
-    ap (λ a. kept (settle_note (channels_after m msg) (zones_with a m.zones) t) o) (asks_narrow m msg e)
+settled_same m msg t d k o own apart h =
+    ap (λ a. kept (settle_note (channels_after m msg) (zones_with a m.zones) t) o) (asks_own m msg own)
     ∙ settled_here (channels_after m msg) m.zones t d k o h
-    ∙ ap (λ p. cond (is_pedal_down p) o (without_pedal o)) (pedal_stays m msg (governor m.zones d) e)
+    ∙ ap (λ p. cond (is_pedal_down p) o (without_pedal o)) (pedal_elsewhere m msg d own apart)
     ∙ sym (settled_here m.channels m.zones t d k o h)
 
-elsewhere_same : (m : Music) (next t : ℕ) (msg : Msg) (d k : ℕ) (o : Slot) → is_wide msg ≡ false → IsHere d k o → d ≢ channel_of msg
+elsewhere_same : (m : Music) (next t : ℕ) (msg : Msg) (d k : ℕ) (o : Slot) → is_own m.zones msg ≡ true → IsHere d k o → d ≢ channel_of msg
     → kept (settle_note m.channels m.zones t) o ≡ o
     → kept (settle_note (channels_after m msg) (zones_after m msg) t) (acted m next t msg d k o) ≡ acted m next t msg d k o
-elsewhere_same m next t msg d k o e h apart calm =
-    let a : acted m next t msg d k o ≡ o = acted_elsewhere m next t msg d k o e h apart in
-    ap (kept (settle_note (channels_after m msg) (zones_after m msg) t)) a ∙ settled_same m msg t d k o e h ∙ calm ∙ sym a
+elsewhere_same m next t msg d k o own h apart calm =
+    let a : acted m next t msg d k o ≡ o = acted_own m next t msg d k o own h apart in
+    ap (kept (settle_note (channels_after m msg) (zones_after m msg) t)) a ∙ settled_same m msg t d k o own apart h ∙ calm ∙ sym a
 
 -- ---- the notes after it, where the notes of its own channel are settled alone
-pub followed_here : (r a s : Player) (t : ℕ) (msg : Msg) (i : ℕ) → is_wide msg ≡ false → i ≡ channel_of msg
+pub followed_here : (r a s : Player) (t : ℕ) (msg : Msg) (i : ℕ) → is_own (zones_in r.zones) msg ≡ true → i ≡ channel_of msg
     → SlotsBecome (acted (set_up_of r) (r.begun + 1) t msg) r a
     → states_of a ≡ channels_after (set_up_of r) msg → zones_in a.zones ≡ zones_after (set_up_of r) msg
     → SlotsBecome (only_on i (settled_by (set_up_of a) t)) a s → IsCalm r
     → (d k : ℕ) → d < 16 → k < 128 → slot s d k ≡ sounding_after (set_up_of r) (r.begun + 1) t (Plays msg) d k (slot r d k)
-followed_here r a s t msg i narrow is acts states zones settles calm d k dl kl =
+followed_here r a s t msg i own is acts states zones settles calm d k dl kl =
     let m : Music = set_up_of r in
     let n : ℕ = r.begun + 1 in
     let G : Slot → Slot = kept (settle_note (channels_after m msg) (zones_after m msg) t) in
@@ -160,19 +240,19 @@ followed_here r a s t msg i narrow is acts states zones settles calm d k dl kl =
     let rest : cond (nat_eq d i) (kept (settled_by (set_up_of a) t) x) x ≡ G (acted m n t msg d k (slot r d k)) =
     elim (eqb_tells d i) [
       | inl u ↦ rw u.0 (same ∙ ap G (acts d k dl kl))
-      | inr u ↦ rw u.0 (acts d k dl kl ∙ sym (elsewhere_same m n t msg d k (slot r d k) narrow (slot_here r.channels d k) (λ e. u.1 (e ∙ sym is)) (calm t d k dl kl)))
+      | inr u ↦ rw u.0 (acts d k dl kl ∙ sym (elsewhere_same m n t msg d k (slot r d k) own (slot_here r.channels d k) (λ e. u.1 (e ∙ sym is)) (calm t d k dl kl)))
     ] in
     settles d k dl kl ∙ rest
 
-pub still_elsewhere : (r a s : Player) (t : ℕ) (msg : Msg) (i : ℕ) → is_wide msg ≡ false → i ≡ channel_of msg
+pub still_elsewhere : (r a s : Player) (t : ℕ) (msg : Msg) (i : ℕ) → is_own (zones_in r.zones) msg ≡ true → i ≡ channel_of msg
     → SlotsBecome (acted (set_up_of r) (r.begun + 1) t msg) r a
     → SlotsBecome (only_on i (settled_by (set_up_of a) t)) a s
     → (d k : ℕ) → d < 16 → k < 128 → d ≢ channel_of msg → slot s d k ≡ slot r d k
-still_elsewhere r a s t msg i narrow is acts settles d k dl kl apart =
+still_elsewhere r a s t msg i own is acts settles d k dl kl apart =
     let x : Slot = slot a d k in
     let there : cond (nat_eq d i) (kept (settled_by (set_up_of a) t) x) x ≡ x = ap (λ b. cond b (kept (settled_by (set_up_of a) t) x) x) (ne_eqb d i (λ e. apart (e ∙ is))) in
     settles d k dl kl ∙ there ∙ acts d k dl kl
-    ∙ acted_elsewhere (set_up_of r) (r.begun + 1) t msg d k (slot r d k) narrow (slot_here r.channels d k) apart
+    ∙ acted_own (set_up_of r) (r.begun + 1) t msg d k (slot r d k) own (slot_here r.channels d k) apart
 
 -- ---- the notes that ended by it
 strikes_elsewhere : (msg : Msg) (d j : ℕ) → d ≢ channel_of msg → strikes_by msg d j ≡ false

@@ -5,6 +5,7 @@ use Rattle.mt_base.specs.declared.event.Msg.{Msg}
 use Rattle.mt_base.specs.declared.event.Msg.TheVariants.{Control}
 use Rattle.midi_model.specs.Channel.{Role, Stored, EntryHigh, AllSoundOff, ResetControllers, AllNotesOff, role}
 use Rattle.midi_model.specs.Sysex.{Doing}
+use Rattle.midi_model.specs.Zones.{Zones}
 use Rattle.receiver.specs.declared.ends.Ends.{Ends}
 use Rattle.receiver.specs.declared.player.Player.{Player}
 use Rattle.receiver.specs.Notes.{has}
@@ -24,6 +25,15 @@ is_wide_role n _ = false
 abbrev pub is_wide : Msg → Bool
 is_wide (Control c n v) = is_wide_role n (role n)
 is_wide _ = false
+
+-- the hold pedal
+abbrev pub is_hold : Msg → Bool
+is_hold (Control c n v) = nat_eq n 64
+is_hold _ = false
+
+-- whether a message reaches the notes of its own channel alone: any that isn't wide, and the hold pedal where no zone is set
+abbrev pub is_own : Zones → Msg → Bool
+is_own z msg = not (is_wide msg) || (is_hold msg && (nat_eq z.lower 0 && nat_eq z.upper 0))
 
 -- whether an event ends no note of a channel: a message to another channel that reaches the notes of its own alone
 abbrev pub spares : MidiWhat → ℕ → Bool

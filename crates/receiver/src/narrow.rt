@@ -1,11 +1,12 @@
-ghost use Rattle.std.specs.Prelude.{◌≡◌, ◌≢◌, ◌<◌, ◌≤◌, ◌+◌, ℕ, false, replicate, is_some, slice_index};
+ghost use Rattle.std.specs.Prelude.{◌≡◌, ◌≢◌, ◌<◌, ◌≤◌, ◌+◌, ℕ, true, false, replicate, is_some, slice_index};
 ghost use Rattle.mt_base.specs.Midi.{Says, channel_of};
 ghost use Rattle.mt_base.specs.Valid.{IsValidMsg};
 ghost use Rattle.midi_model.specs.Sysex.{Plays};
 ghost use Rattle.receiver.specs.Following.{FollowsBy};
 ghost use Rattle.receiver.specs.Notes.{has};
-ghost use Rattle.receiver.specs.Reach.{is_wide, IsCalm, TellsBy};
+ghost use Rattle.receiver.specs.Reach.{is_wide, is_hold, is_own, IsCalm, TellsBy};
 ghost use Rattle.receiver.specs.Stands.{HasRoom, slot};
+ghost use Rattle.receiver.specs.Zones.{zones_in};
 
 use crate::ends::Ends;
 use crate::player::Player;
@@ -27,8 +28,25 @@ pub fn is_wide(message: &Msg) -> bool
     }
 }
 
+/// Whether a message is one of the hold pedal.
+fn is_hold(message: &Msg) -> bool
+    ensures { result ≡ is_hold message.now }
+{
+    match *message {
+        Msg::Control { number, .. } => number == 64,
+        _ => false,
+    }
+}
+
 // What a message does that reaches the notes of its own channel alone, which most do.
 impl Player {
+    /// Whether a message does: any that isn't wide, and the hold pedal where no zone is set.
+    pub(crate) fn is_own(&self, message: &Msg) -> bool
+        ensures { result ≡ is_own (zones_in self.now.zones) message.now }
+    {
+        !is_wide(message) || (is_hold(message) && self.zones.lower == 0 && self.zones.upper == 0)
+    }
+
     /// The keys of a channel on which a note sounds.
     fn keys_on(&self, place: u8) -> u128
         requires { place < 16 }
@@ -42,7 +60,7 @@ impl Player {
         requires valid { IsValidMsg message.now }
         requires room { HasRoom self.old (Says message.now) }
         requires few { self.old.begun < 4294967295 }
-        requires narrow { is_wide message.now ≡ false }
+        requires own { is_own (zones_in self.old.zones) message.now ≡ true }
         ensures follows { IsCalm self.old → FollowsBy self.old tick (Plays message.now) self.new }
         ensures elsewhere { (c k : ℕ) → c < 16 → k < 128 → c ≢ channel_of message.now
             → slot self.new c k ≡ slot self.old c k }
@@ -57,7 +75,7 @@ impl Player {
         requires valid { IsValidMsg message.now }
         requires room { HasRoom self.old (Says message.now) }
         requires few { self.old.begun < 4294967295 }
-        requires narrow { is_wide message.now ≡ false }
+        requires own { is_own (zones_in self.old.zones) message.now ≡ true }
         requires clear { ends.old.keys ≡ replicate 16 0 }
         ensures follows { IsCalm self.old → FollowsBy self.old tick (Plays message.now) self.new }
         ensures tells { TellsBy self.old (Plays message.now) self.new ends.new }

@@ -2,7 +2,6 @@ ghost use Rattle.std.specs.Prelude.{◌≡◌, ℕ};
 ghost use Rattle.mt_base.specs.Midi.{view_what};
 
 use crate::ends::Ends;
-use crate::narrow::is_wide;
 use crate::playing::Playing;
 use crate::strokes::{channel_number, struck_by};
 use crate::zones::ZoneSizes;
@@ -193,7 +192,9 @@ impl Player {
         music_laws();
         receiver_laws();
         match *what {
-            What::Message(ref message) if !is_wide(message) => self.step_here(tick, message, ends),
+            What::Message(ref message) if self.is_own(message) => self.step_here(
+                tick, message, ends,
+            ),
             _ => *ends = self.step_all(tick, what),
         }
     }

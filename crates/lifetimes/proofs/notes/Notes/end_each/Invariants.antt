@@ -1,7 +1,7 @@
 use Rattle.std.proofs.Common.{◌≡◌, ◌<◌, ◌^◌, ℕ, true, false, not, ◌&&◌}
 use Rattle.receiver.specs.Notes.{has}
 use Rattle.lifetimes.specs.OnePart.{PartEnds}
-use Rattle.lifetimes.proofs.notes.Notes.end_all.Given as goal
+use Rattle.lifetimes.proofs.notes.Notes.end_each.Given as goal
 
 abbrev pub invariant-loop-rest : goal.invariant-loop-rest
 invariant-loop-rest l = record {
