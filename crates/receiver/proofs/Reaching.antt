@@ -113,7 +113,8 @@ apply_pedal s (Program c p) e = refl
 apply_pedal s (Pressure c v) e = refl
 apply_pedal s (Bend c v) e = refl
 
-same_at : {A : Type 0} (f : Channel → A) (ss : List Channel) (c g : ℕ) (x d : Channel) → f x ≡ f (get_or ss c d) → f (get_or (set ss c x) g d) ≡ f (get_or ss g d)
+same_at : {A : Type 0} (f : Channel → A) (ss : List Channel) (c g : ℕ) (x d : Channel) → f x ≡ f (get_or ss c d)
+    → f (get_or (set ss c x) g d) ≡ f (get_or ss g d)
 same_at f [] c g x d e = refl
 same_at f (s ∷ ss) zero zero x d e = e
 same_at f (s ∷ ss) zero (suc g) x d e = refl
@@ -197,7 +198,8 @@ asks_own m msg own = elim (own_kind m.zones msg own) [
 ]
 
 pedal_elsewhere : (m : Music) (msg : Msg) (d : ℕ) → is_own m.zones msg ≡ true → d ≢ channel_of msg
-    → control_of (get_or (channels_after m msg) (governor m.zones d) default_channel) 64 ≡ control_of (get_or m.channels (governor m.zones d) default_channel) 64
+    → control_of (get_or (channels_after m msg) (governor m.zones d) default_channel) 64
+    ≡ control_of (get_or m.channels (governor m.zones d) default_channel) 64
 pedal_elsewhere m msg d own apart = elim (own_kind m.zones msg own) [
   | inl e ↦ pedal_stays m msg (governor m.zones d) e
   | inr e ↦ (let c : ℕ = channel_of msg in
@@ -240,7 +242,8 @@ followed_here r a s t msg i own is acts states zones settles calm d k dl kl =
     let rest : cond (nat_eq d i) (kept (settled_by (set_up_of a) t) x) x ≡ G (acted m n t msg d k (slot r d k)) =
     elim (eqb_tells d i) [
       | inl u ↦ rw u.0 (same ∙ ap G (acts d k dl kl))
-      | inr u ↦ rw u.0 (acts d k dl kl ∙ sym (elsewhere_same m n t msg d k (slot r d k) own (slot_here r.channels d k) (λ e. u.1 (e ∙ sym is)) (calm t d k dl kl)))
+      | inr u ↦ rw u.0 (acts d k dl kl ∙ sym (elsewhere_same m n t msg d k (slot r d k) own (slot_here r.channels d k) (λ e. u.1 (e ∙ sym is))
+          (calm t d k dl kl)))
     ] in
     settles d k dl kl ∙ rest
 
@@ -250,7 +253,8 @@ pub still_elsewhere : (r a s : Player) (t : ℕ) (msg : Msg) (i : ℕ) → is_ow
     → (d k : ℕ) → d < 16 → k < 128 → d ≢ channel_of msg → slot s d k ≡ slot r d k
 still_elsewhere r a s t msg i own is acts settles d k dl kl apart =
     let x : Slot = slot a d k in
-    let there : cond (nat_eq d i) (kept (settled_by (set_up_of a) t) x) x ≡ x = ap (λ b. cond b (kept (settled_by (set_up_of a) t) x) x) (ne_eqb d i (λ e. apart (e ∙ is))) in
+    let there : cond (nat_eq d i) (kept (settled_by (set_up_of a) t) x) x ≡ x = ap (λ b. cond b (kept (settled_by (set_up_of a) t) x) x)
+    (ne_eqb d i (λ e. apart (e ∙ is))) in
     settles d k dl kl ∙ there ∙ acts d k dl kl
     ∙ acted_own (set_up_of r) (r.begun + 1) t msg d k (slot r d k) own (slot_here r.channels d k) apart
 
@@ -291,5 +295,6 @@ ended_mask i before now s c k was is msg low fits below e hb hn hs =
     ∙ ap (λ b. is_some was && (strikes_by msg c k || not b)) hn
 
 -- no bit was set before
-pub masked : (keys : List ℕ) (i x c k : ℕ) (b : Bool) → keys ≡ replicate 16 0 → has (get_or (set (replicate 16 0) i x) c 0) k ≡ b → has (get_or (set keys i x) c 0) k ≡ b
+pub masked : (keys : List ℕ) (i x c k : ℕ) (b : Bool) → keys ≡ replicate 16 0 → has (get_or (set (replicate 16 0) i x) c 0) k ≡ b
+    → has (get_or (set keys i x) c 0) k ≡ b
 masked keys i x c k b clear is = ap (λ l. has (get_or (set l i x) c 0) k) clear ∙ is

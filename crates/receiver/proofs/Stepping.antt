@@ -169,7 +169,8 @@ ended_then r s t es e h f at one c k cl kl =
     ∙ sym (ended_step m e c k one)
     ∙ sym (ap (λ x. ended_on c k m.notes x.music.notes) (after_append es e))
 
-pub tells_then : (r s : Player) (ends : Ends) (t : ℕ) (es : List MidiEvent) (e : MidiEvent) (what : MidiWhat) → PlayerStands r es → FollowsBy r t (doing what) s → TellsBy r (doing what) s ends
+pub tells_then : (r s : Player) (ends : Ends) (t : ℕ) (es : List MidiEvent) (e : MidiEvent) (what : MidiWhat) → PlayerStands r es
+    → FollowsBy r t (doing what) s → TellsBy r (doing what) s ends
     → e.tick ≡ t → e.what ≡ what → AtMostOne (after es).music.notes → TellsEnded ends (after es).music.notes (after (es ++ e ∷ [])).music.notes
 tells_then r s ends t es e what h f tells at is one c k cl kl =
     tells c k cl kl

@@ -46,4 +46,5 @@ IsCalm r = (t c k : ℕ) → c < 16 → k < 128 → kept (settled_by (set_up_of 
 
 -- bit k of channel c is set exactly where a note sounded there before the event, and doesn't after it or was struck again
 abbrev pub TellsBy : Player → Doing → Player → Ends → Type 0
-TellsBy r doing s ends = (c k : ℕ) → c < 16 → k < 128 → has (slice_index ends.keys c) k ≡ (is_some (slot r c k) && (strikes doing c k || not (is_some (slot s c k))))
+TellsBy r doing s ends = (c k : ℕ) → c < 16 → k < 128 → has (slice_index ends.keys c) k
+    ≡ (is_some (slot r c k) && (strikes doing c k || not (is_some (slot s c k))))

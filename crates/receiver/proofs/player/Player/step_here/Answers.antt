@@ -7,7 +7,8 @@ use Rattle.receiver.proofs.player.Player.step_here.Goals as goal
 
 pub returns-clause-alone : goal.returns-clause-alone
 returns-clause-alone c d k dl kl apart =
-    masked c.args.ends.now.keys c.channel_number-place.result _ d k false c.requires.clear (one_mask c.channel_number-place.result _ d k dl (λ e. apart (e ∙ c.channel_number-place.ensures.value)))
+    masked c.args.ends.now.keys c.channel_number-place.result _ d k false c.requires.clear
+    (one_mask c.channel_number-place.result _ d k dl (λ e. apart (e ∙ c.channel_number-place.ensures.value)))
 
 pub returns-clause-tells : goal.returns-clause-tells
 returns-clause-tells c d k dl kl =

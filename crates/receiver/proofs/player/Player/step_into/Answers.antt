@@ -13,14 +13,16 @@ returns-in-Message-clause-stands c es e h at is =
     let r = c.args.self.now in
     let s = c.step_here.new.self in
     let says : Says c.in-Message.message ≡ e.what = sym (is ∙ ap view_what c.in-Message.is) in
-    let follows : FollowsBy r c.args.tick (doing e.what) s = subst (λ w. FollowsBy r c.args.tick (doing w) s) says (c.step_here.ensures.follows (calm_of r es h c.music_laws.ensures.settled)) in
+    let follows : FollowsBy r c.args.tick (doing e.what) s = subst (λ w. FollowsBy r c.args.tick (doing w) s) says
+    (c.step_here.ensures.follows (calm_of r es h c.music_laws.ensures.settled)) in
     stands_then r s c.args.tick es e h (subst (λ w. HasRoom r w) (sym is) c.requires.room) follows at (c.receiver_laws.ensures.one_note es)
 
 pub returns-in-Message-clause-ends : goal.returns-in-Message-clause-ends
 returns-in-Message-clause-ends c es e h at is =
     let r = c.args.self.now in
     let says : e.what ≡ Says c.in-Message.message = is ∙ ap view_what c.in-Message.is in
-    tells_then r c.step_here.new.self c.step_here.new.ends c.args.tick es e (Says c.in-Message.message) h (c.step_here.ensures.follows (calm_of r es h c.music_laws.ensures.settled)) c.step_here.ensures.tells at says
+    tells_then r c.step_here.new.self c.step_here.new.ends c.args.tick es e (Says c.in-Message.message) h
+    (c.step_here.ensures.follows (calm_of r es h c.music_laws.ensures.settled)) c.step_here.ensures.tells at says
     (c.receiver_laws.ensures.one_note es)
 
 pub returns-in-Message-clause-begun : goal.returns-in-Message-clause-begun
@@ -30,12 +32,19 @@ pub returns-in_default-clause-stands : goal.returns-in_default-clause-stands
 returns-in_default-clause-stands c es e h at is =
     let r = c.args.self.now in
     let s = c.step_all.new.self in
-    stands_then r s c.args.tick es e h (subst (λ w. HasRoom r w) (sym is) c.requires.room) (subst (λ w. FollowsBy r c.args.tick (doing w) s) (sym is) c.step_all.ensures.follows) at (c.receiver_laws.ensures.one_note es)
+    stands_then r s c.args.tick es e h (subst (λ w. HasRoom r w) (sym is) c.requires.room)
+    (subst (λ w. FollowsBy r c.args.tick (doing w) s) (sym is) c.step_all.ensures.follows) at (c.receiver_laws.ensures.one_note es)
 
 pub returns-in_default-clause-ends : goal.returns-in_default-clause-ends
 returns-in_default-clause-ends c es e h at is =
-    tells_then c.args.self.now c.step_all.new.self c.step_all.result c.args.tick es e (view_what c.args.what.now) h c.step_all.ensures.follows c.step_all.ensures.tells at is
+    tells_then c.args.self.now c.step_all.new.self c.step_all.result c.args.tick es e (view_what c.args.what.now) h c.step_all.ensures.follows
+    c.step_all.ensures.tells at is
     (c.receiver_laws.ensures.one_note es)
 
 pub returns-in_default-clause-begun : goal.returns-in_default-clause-begun
-returns-in_default-clause-begun c = omega (arith, c.step_all.ensures.follows.begun, one_more (begins (doing (view_what c.args.what.now))) c.args.self.now.begun)
+returns-in_default-clause-begun c = omega (
+  arith,
+  c.step_all.ensures.follows.begun,
+  one_more (begins (doing (view_what c.args.what.now)))
+      c.args.self.now.begun,
+)
