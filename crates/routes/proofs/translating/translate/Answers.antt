@@ -36,10 +36,13 @@ pass_on-requires g c =
     let mask = c.parts-channels.result in
     let told = c.told_key-told.result in
     let fits : mask < 65536 = search rules in
-    let by : told ≡ told_of (is_live o.route) o table e.what = subst (λ b. told ≡ told_of b o table e.what) c.device_for-device.ensures.live c.told_key-told.ensures in
+    let by : told ≡ told_of (is_live o.route) o table e.what = subst (λ b. told ≡ told_of b o table e.what) c.device_for-device.ensures.live
+    c.told_key-told.ensures in
     let block = block_events d mask (told_in c.events.kept z).begun (due_if (told_in c.events.kept z).keys told) e in
-    let next = turn (TracksStand c.events.tracks) o table all rest c.events.kept c.args.out.now c.events.out p e more d mask z told c.in-Some.ensures.some c.device_for-device.ensures.live c.device_for-device.ensures.dump
-    c.device_for-device.ensures.program fits c.requires.valid (c.parts-channels.ensures o all c.requires.noted) (c.port_of-port.ensures p.front p.stands) by in
+    let next = turn (TracksStand c.events.tracks) o table all rest c.events.kept c.args.out.now c.events.out p e more d mask z told
+    c.in-Some.ensures.some c.device_for-device.ensures.live c.device_for-device.ensures.dump
+    c.device_for-device.ensures.program fits c.requires.valid (c.parts-channels.ensures o all c.requires.noted)
+    (c.port_of-port.ensures p.front p.stands) by in
     let valid : IsValidEvent e = (subst (λ (l : List MidiEvent). AllByRecursion IsValidEvent l) c.in-Some.ensures.some c.events.invariant.valid).0 in
     record {
       program = search rules;
@@ -63,16 +66,20 @@ events-preserved g c =
     let mask = c.parts-channels.result in
     let told = c.told_key-told.result in
     let fits : mask < 65536 = search rules in
-    let by : told ≡ told_of (is_live o.route) o table e.what = subst (λ b. told ≡ told_of b o table e.what) c.device_for-device.ensures.live c.told_key-told.ensures in
+    let by : told ≡ told_of (is_live o.route) o table e.what = subst (λ b. told ≡ told_of b o table e.what) c.device_for-device.ensures.live
+    c.told_key-told.ensures in
     let block = block_events d mask (told_in c.events.kept z).begun (due_if (told_in c.events.kept z).keys told) e in
-    let next = turn (TracksStand c.events.tracks) o table all rest c.events.kept c.args.out.now c.events.out p e more d mask z told c.in-Some.ensures.some c.device_for-device.ensures.live c.device_for-device.ensures.dump
-    c.device_for-device.ensures.program fits c.requires.valid (c.parts-channels.ensures o all c.requires.noted) (c.port_of-port.ensures p.front p.stands) by in
+    let next = turn (TracksStand c.events.tracks) o table all rest c.events.kept c.args.out.now c.events.out p e more d mask z told
+    c.in-Some.ensures.some c.device_for-device.ensures.live c.device_for-device.ensures.dump
+    c.device_for-device.ensures.program fits c.requires.valid (c.parts-channels.ensures o all c.requires.noted)
+    (c.port_of-port.ensures p.front p.stands) by in
     let some = c.in-Some.ensures.some in
     record {
       all = c.in-Some.ensures.all ∙ c.events.invariant.all;
       valid = (subst (λ (l : List MidiEvent). AllByRecursion IsValidEvent l) some c.events.invariant.valid).1;
       tracks = (subst (λ (l : List MidiEvent). AllByRecursion (λ x. x.track < 1024) l) some c.events.invariant.tracks).1;
-      passing = passes (TracksStand c.events.tracks) (TracksStand c.take.new.self) o table all rest c.events.kept c.pass_on.new.kept c.args.out.now c.events.out c.pass_on.new.out p e more z
+      passing = passes (TracksStand c.events.tracks) (TracksStand c.take.new.self) o table all rest c.events.kept c.pass_on.new.kept c.args.out.now
+          c.events.out c.pass_on.new.out p e more z
           some (c.take.ensures p.front p.stands)
           (c.in_ok-pass_on.ensures.kept (lives (is_live o.route) o table (events_on z all)) (key_is (is_live o.route) o table e.what told by))
           (more_put c.args.out.now (routed o table all) block
@@ -93,10 +100,13 @@ returns-in_err-pass_on-clause-front g c =
     let mask = c.parts-channels.result in
     let told = c.told_key-told.result in
     let fits : mask < 65536 = search rules in
-    let by : told ≡ told_of (is_live o.route) o table e.what = subst (λ b. told ≡ told_of b o table e.what) c.device_for-device.ensures.live c.told_key-told.ensures in
+    let by : told ≡ told_of (is_live o.route) o table e.what = subst (λ b. told ≡ told_of b o table e.what) c.device_for-device.ensures.live
+    c.told_key-told.ensures in
     let block = block_events d mask (told_in c.events.kept z).begun (due_if (told_in c.events.kept z).keys told) e in
-    let next = turn (TracksStand c.events.tracks) o table all rest c.events.kept c.args.out.now c.events.out p e more d mask z told c.in-Some.ensures.some c.device_for-device.ensures.live c.device_for-device.ensures.dump
-    c.device_for-device.ensures.program fits c.requires.valid (c.parts-channels.ensures o all c.requires.noted) (c.port_of-port.ensures p.front p.stands) by in
+    let next = turn (TracksStand c.events.tracks) o table all rest c.events.kept c.args.out.now c.events.out p e more d mask z told
+    c.in-Some.ensures.some c.device_for-device.ensures.live c.device_for-device.ensures.dump
+    c.device_for-device.ensures.program fits c.requires.valid (c.parts-channels.ensures o all c.requires.noted)
+    (c.port_of-port.ensures p.front p.stands) by in
     on_err _ c.from_residual.result
     (front_of c.args.out.now (routed o table all) block (later o table all p.front z
     (told_in c.events.kept) e more) c.events.out c.pass_on.new.out next c.in_err-pass_on.ensures.front)

@@ -99,7 +99,8 @@ returns-clause-change g c es s =
     } in
     let fine = ap (λ p. fault_at p table (es ++ e ∷ []) (length es)) same ∙ none in
     let stands = c.take.ensures.stands table es then fine in
-    let counted : c.take.new.self.begun ≡ count_begun o (es ++ e ∷ []) = stands.begun ∙ ap (λ p. count_begun p (es ++ e ∷ [])) (ap options_of c.take.ensures.options ∙ same) in
+    let counted : c.take.new.self.begun ≡ count_begun o (es ++ e ∷ []) = stands.begun ∙ ap (λ p. count_begun p (es ++ e ∷ []))
+    (ap options_of c.take.ensures.options ∙ same) in
     let one : is_some c.strike-strike.result ≡ true → c.take.new.self.begun ≡ suc (count_begun o es) = (λ is.
     counted ∙ count_next o es e
     ∙ ap (λ b. cond b 1 0 + count_begun o es) (sym (strike_counts o table e.tick e.what) ∙ ap is_some (sym c.strike-strike.ensures) ∙ is)

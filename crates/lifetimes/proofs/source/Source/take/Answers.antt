@@ -80,10 +80,12 @@ a_port c = some_port c.args.self.now.ports (let four : length c.args.self.now.po
 
 pub returns-clause-stands : goal.returns-clause-stands
 returns-clause-stands c = λ table es next none.
-    source_next (laws c) c.sound_sources.ensures.fine table es (view c.args.event.now) c.args.port c.args.strike.now c.open-place.result c.hear.new.ends
+    source_next (laws c) c.sound_sources.ensures.fine table es (view c.args.event.now) c.args.port c.args.strike.now c.open-place.result
+    c.hear.new.ends
     c.args.self.now c.open-place.new.self c.count.new.self c.hear.new.self (stepped c table es next none) (a_port c)
 
 pub returns-clause-ended : goal.returns-clause-ended
 returns-clause-ended c = λ table es next none.
-    source_tells (laws c) c.sound_sources.ensures.fine table es (view c.args.event.now) c.args.port c.args.strike.now c.open-place.result c.hear.new.ends
+    source_tells (laws c) c.sound_sources.ensures.fine table es (view c.args.event.now) c.args.port c.args.strike.now c.open-place.result
+    c.hear.new.ends
     c.args.self.now c.open-place.new.self c.count.new.self c.hear.new.self (stepped c table es next none) (a_port c)
