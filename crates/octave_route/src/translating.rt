@@ -6,10 +6,9 @@ ghost use Rattle.midi_model.specs.Order.{AreInOrder};
 ghost use Rattle.midi_model.specs.Sysex.{doing};
 ghost use Rattle.retune_model.specs.PortOutput.{kept_for};
 ghost use Rattle.retune_model.specs.Routes.{dump_next};
-ghost use Rattle.retune_model.specs.SourceFaults.{IsFaultless, is_message};
+ghost use Rattle.retune_model.specs.SourceFaults.{IsFaultless};
 ghost use Rattle.lifetimes.specs.Stands.{Stands, asked, table_in};
 ghost use Rattle.lifetimes.specs.Noted.{IsNoted};
-ghost use Rattle.routes.specs.Device.{is_first, resets_all};
 ghost use Rattle.routes.specs.Putting.{AllMayPut, put_all, IsFront};
 ghost use Rattle.octave_route.specs.Messages.{IsOctaveValue};
 ghost use Rattle.octave_route.specs.Output.{octaved};
@@ -20,42 +19,8 @@ use event_stream::{EventStream, TrackSet};
 use key_pitch::Aims;
 use lifetimes::{Noted, Parts, StepFault};
 use mt_base::{Event, Memory, What};
-use mts_msg::is_reset;
 use retune_model::front_faults;
-
-/// Whether an event is a channel message.
-fn is_message(what: &What<'_>) -> bool
-    ensures { result ≡ is_message (view_what what.now) }
-{
-    match *what {
-        What::Message(_) => true,
-        What::Sysex { .. } | What::Meta { .. } => false,
-    }
-}
-
-/// Whether an event is a reset.
-fn resets(what: &What<'_>) -> bool
-    ensures { result ≡ resets_all (view_what what.now) }
-{
-    match what {
-        What::Sysex { lead, bytes } => *lead == 0xf0 && is_reset(bytes),
-        What::Message(_) | What::Meta { .. } => false,
-    }
-}
-
-/// Whether an event is the first channel message.
-fn is_first(begun: bool, what: &What<'_>) -> bool
-    ensures { result ≡ is_first begun (view_what what.now) }
-{
-    !begun && is_message(what)
-}
-
-/// Whether an event is a reset, once a channel message came.
-fn is_again(begun: bool, what: &What<'_>) -> bool
-    ensures { result ≡ (begun && resets_all (view_what what.now)) }
-{
-    begun && resets(what)
-}
+use routes::{is_again, is_first, is_message, put_sysex};
 
 /// Whether a message is due, where it is wanted for the channels of a mask.
 fn is_due(wanted: bool, channels: u16) -> bool
@@ -82,14 +47,7 @@ fn put_setup(
     let due = is_due(wanted, channels);
     if due {
         let bytes = message(channels, values);
-        out.put(&Event {
-            tick: at.tick,
-            track: at.track,
-            what: What::Sysex {
-                lead: 0xf0,
-                bytes: bytes.as_slice(),
-            },
-        })
+        put_sysex(out, at, bytes.as_slice())
     } else {
         Ok(())
     }

@@ -20,7 +20,7 @@ pub(crate) struct Kept {
 }
 
 /// Whether an event is a channel message.
-pub(crate) fn is_message(what: &What<'_>) -> bool
+pub fn is_message(what: &What<'_>) -> bool
     ensures { result ≡ is_message (view_what what.now) }
 {
     match *what {
@@ -30,7 +30,7 @@ pub(crate) fn is_message(what: &What<'_>) -> bool
 }
 
 /// Whether an event is a reset.
-pub(crate) fn resets(what: &What<'_>) -> bool
+pub fn resets(what: &What<'_>) -> bool
     ensures { result ≡ resets_all (view_what what.now) }
 {
     match what {

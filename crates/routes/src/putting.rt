@@ -6,7 +6,7 @@ use event_stream::TrackSet;
 use mt_base::{Event, Memory, Msg, What};
 
 /// Puts messages at an event's tick into its track. On `Memory` a front of them was put.
-pub(crate) fn put_messages(
+pub fn put_messages(
     out: &mut TrackSet,
     at: &Event<'_>,
     messages: &[Msg],
@@ -28,7 +28,7 @@ pub(crate) fn put_messages(
 
 /// Puts a system exclusive message at an event's tick into its track. On `Memory` nothing was put.
 #[tactic(auto, unfolding(crate::specs::Putting::AllMayPut, crate::specs::Putting::put_all))]
-pub(crate) fn put_sysex(out: &mut TrackSet, at: &Event<'_>, bytes: &[u8]) -> Result<(), Memory>
+pub fn put_sysex(out: &mut TrackSet, at: &Event<'_>, bytes: &[u8]) -> Result<(), Memory>
     requires { AllMayPut out.old (sent_at (view at.now) (bytes.now ∷ [])) }
     ensures put { OnOk result
         (out.new ≡ put_all out.old (sent_at (view at.now) (bytes.now ∷ []))) }

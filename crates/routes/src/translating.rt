@@ -119,14 +119,14 @@ fn put_change(
 }
 
 /// Whether an event is the first channel message.
-fn is_first(begun: bool, what: &What<'_>) -> bool
+pub fn is_first(begun: bool, what: &What<'_>) -> bool
     ensures { result ≡ is_first begun (view_what what.now) }
 {
     !begun && is_message(what)
 }
 
 /// Whether an event is a reset, once a channel message came.
-fn is_again(begun: bool, what: &What<'_>) -> bool
+pub fn is_again(begun: bool, what: &What<'_>) -> bool
     ensures { result ≡ (begun && resets_all (view_what what.now)) }
 {
     begun && resets(what)
