@@ -84,7 +84,7 @@ controller_brings o table after out hs n v AllSoundOff h = absurd h
 controller_brings o table after out hs n v AllNotesOff h = absurd h
 controller_brings o table after out hs n v Ignored h = absurd h
 
-causes_bring : (port : ℕ) (o : Options) (table : Targets) (k : Moment) (before after out : Music) (t : ℕ) (msg : Msg) → Changes msg →
+pub causes_bring : (port : ℕ) (o : Options) (table : Targets) (k : Moment) (before after out : Music) (t : ℕ) (msg : Msg) → Changes msg →
     part_causes port o table k before after out t msg ≡ bring_all o table after out (held_by k.old (channel_of msg) k.holds)
 causes_bring port o table k before after out t (NoteOn c j v) h = absurd h
 causes_bring port o table k before after out t (NoteOff c j v) h = absurd h
@@ -111,7 +111,7 @@ none_begins port o table t (Program c x) h p b = b
 none_begins port o table t (Pressure c v) h p b = b
 none_begins port o table t (Bend c v) h p b = b
 
-none_begun : (m : Music) (t : ℕ) (msg : Msg) → Changes msg → begun_by m t (Plays msg) ≡ []
+pub none_begun : (m : Music) (t : ℕ) (msg : Msg) → Changes msg → begun_by m t (Plays msg) ≡ []
 none_begun m t (NoteOn c k v) h = absurd h
 none_begun m t (NoteOff c k v) h = refl
 none_begun m t (Control c n v) h = refl

@@ -42,13 +42,13 @@ use Rattle.bend_laws.proofs.States.{silent_pressures}
 use Rattle.bend_laws.proofs.Quieting.{keys_as}
 
 -- a port of the file, with its plan
-record OnPort (o : Options) (allowed : ℕ → Bool) (table : Targets) (es : List MidiEvent) (need : ℕ → ℕ) (channel : ℕ → ℕ → Pair → ℕ)
+pub record OnPort (o : Options) (allowed : ℕ → Bool) (table : Targets) (es : List MidiEvent) (need : ℕ → ℕ) (channel : ℕ → ℕ → Pair → ℕ)
     (z : ℕ) : Type 0 where
-  used : AreUsed o (uses o allowed (need z))
-  planned : IsPlanned IsWellFormed o table (uses o allowed (need z)) (runs_on o table es channel z) (of_port z es) (length es)
-  timely : AreTimely (of_port z es) (length es)
+  pub used : AreUsed o (uses o allowed (need z))
+  pub planned : IsPlanned IsWellFormed o table (uses o allowed (need z)) (runs_on o table es channel z) (of_port z es) (length es)
+  pub timely : AreTimely (of_port z es) (length es)
 
-on_port : PortFacts → (o : Options) (allowed : ℕ → Bool) (table : Targets) (es : List MidiEvent) (need : ℕ → ℕ) (channel : ℕ → ℕ → Pair → ℕ) →
+pub on_port : PortFacts → (o : Options) (allowed : ℕ → Bool) (table : Targets) (es : List MidiEvent) (need : ℕ → ℕ) (channel : ℕ → ℕ → Pair → ℕ) →
     IsBent o allowed table es need channel → (z : ℕ) → OnPort o allowed table es need channel z
 on_port f o allowed table es need channel b z = record {
   used = row_used o allowed (need z) b.route;

@@ -4,7 +4,10 @@ pub mod Blockwise
 pub mod Bridge
 pub mod Bringing
 pub mod Brought
+pub mod Bytes
+pub mod Causing
 pub mod Changing
+pub mod Differing
 pub mod Drumless
 pub mod Elsewhere
 pub mod Equal
@@ -30,12 +33,15 @@ pub mod Planned
 pub mod Planning
 pub mod Playing
 pub mod Ported
+pub mod Pressing
 pub mod Quieting
 pub mod Releasing
 pub mod Righting
+pub mod Roomy
 pub mod Rows
 pub mod Runs
 pub mod Sending
+pub mod Short
 pub mod Shown
 pub mod Simulates
 pub mod Spelled

@@ -64,7 +64,7 @@ pub either_way : (b : Bool) (n : Numbered) (ns : List Numbered) (P : List Number
 either_way true n ns P h g = h
 either_way false n ns P h g = g
 
-abbrev at_next : ℕ → MidiEvent → Numbered
+abbrev pub at_next : ℕ → MidiEvent → Numbered
 at_next k e = record { position = suc k; event = e }
 
 -- what holds of each event of the file

@@ -1,8 +1,10 @@
 -- What the bend route writes for a file, where each port has a plan.
-use Rattle.std.specs.Prelude.{◌≡◌, ◌≤◌, ◌<◌, ℕ, Bool, List, length, get_or}
+use Rattle.std.specs.Prelude.{◌≡◌, ◌≤◌, ◌<◌, ◌+◌, ◌*◌, ℕ, Bool, List, length, map, get_or}
 use Rattle.std.specs.List.{AllByRecursion}
 use Rattle.mt_base.specs.Midi.{MidiEvent}
-use Rattle.midi_model.specs.Merged.{IsPlayable, merged}
+use Rattle.midi_model.specs.Merged.{IsPlayable, merged, of_track, timed}
+use Rattle.midi_model.specs.SizeLaws.{most_of_track}
+use Rattle.midi_model.specs.Writing.{track_bytes}
 use Rattle.midi_model.specs.FileText.{MidiFile}
 use Rattle.midi_model.specs.Music.{quiet, play, state_at}
 use Rattle.retune_model.specs.Table.{Scaling}
@@ -54,6 +56,13 @@ BentFilePlaysTheSame = (o : Options) (allowed : ℕ → Bool) (table : Targets) 
 -- and can be written as a file with the source's tracks
 abbrev pub BentIsPlayable : Type 0
 BentIsPlayable = OfBent (λ o allowed table es need channel. (tracks : ℕ) → IsPlayable tracks es → IsPlayable tracks (bend_output o table channel es))
+
+-- In each track of the file that is written, each source event causes at most 1,600 bytes beside its own. The bytes are counted as they are
+-- written: the messages that one event causes stand at its tick, so that each but the first has a delta of one byte.
+abbrev pub BentAddsFewBytes : Type 0
+BentAddsFewBytes = OfBent (λ o allowed table es need channel. (track : ℕ) →
+    length (track_bytes (map timed (of_track track (bend_output o table channel es))))
+    ≤ most_of_track (map timed (of_track track es)) + 1600 * length es)
 
 -- on each port it speaks to no part but on the channels of the used row
 abbrev pub BentIsOnTheRow : Type 0

@@ -6,6 +6,8 @@ use Rattle.bend_laws.proofs.Outputs.{source_is_played}
 use Rattle.bend_laws.proofs.Musical.{MusicLaws}
 use Rattle.bend_laws.proofs.Ported.{PortFacts, HeldStandOnce, stand_once, timely_port}
 use Rattle.retune_model.specs.Rests.{held_at}
+use Rattle.bend_laws.proofs.Causing.{CountLaws}
+use Rattle.bend_laws.proofs.Short.{file_short}
 use Rattle.bend_laws.proofs.Filed.{port_plays, port_blocks, same_file, file_playable, file_used, port_left, whole_file}
 use Rattle.channel_model.specs.BendOutput.{runs_on}
 use Rattle.retune_model.specs.Ports.{of_port}
@@ -58,6 +60,16 @@ returns c =
         most_of_more = c.wider.ensures.most;
       };
     } in
+    let counts : CountLaws = record {
+      few = c.messages_are_few.ensures.few;
+      most = c.messages_are_few.ensures.most;
+      those = c.messages_are_few.ensures.those;
+      given = c.parameter_laws.ensures.given;
+      others = c.parameter_laws.ensures.others;
+      stay = stay;
+      fade = c.music_laws.ensures.fade;
+      zones = c.zone_entries_set_zones.ensures;
+    } in
     record {
       ports = port_plays laws facts;
       source = λ o allowed table es need channel b z k. source_is_played o table (runs_on o table es channel z)
@@ -67,5 +79,6 @@ returns c =
       same = same_file music facts c.outputs_apart.ensures.bend;
       file = whole_file music facts c.outputs_apart.ensures.bend;
       playable = file_playable laws facts c.outputs_apart.ensures.bend;
+      few_bytes = file_short c.size_laws.ensures.written laws counts facts;
       on_row = file_used laws facts c.outputs_apart.ensures.bend;
     }
