@@ -1,7 +1,7 @@
 -- How many messages an event causes: 392 at most. A note on causes what brings one channel to what its pair needs, 391 at most, and the note
 -- on. Another message of a part causes, on each of the sixteen channels that the part may hold, fifteen at most beside key pressures, and
 -- of these 128 at most over all channels together.
-use Rattle.std.proofs.Common.{◌≡◌, ◌<◌, ◌≤◌, ◌⊎◌, ◌+◌, ◌*◌, ◌++◌, ℕ, zero, suc, Bool, true, false, cond, List, [], ◌∷◌, Option, Some, None, refl, ap, sym, ◌∙◌, subst, map, length, arith, inl, inr}
+use Rattle.std.proofs.Common.{◌≡◌, ◌<◌, ◌≤◌, ◌⊎◌, ◌+◌, ◌*◌, ◌++◌, ℕ, zero, suc, Bool, true, cond, List, [], ◌∷◌, Option, Some, None, refl, ap, sym, ◌∙◌, subst, map, length, arith, inl, inr}
 use Rattle.std.specs.List.{AllByRecursion}
 use Rattle.std.specs.Set.{is_member}
 use Rattle.std.proofs.lemmas.Bool.{cond_both}
@@ -11,13 +11,13 @@ use Rattle.mt_base.specs.declared.event.Msg.{Msg}
 use Rattle.mt_base.specs.declared.event.Msg.TheVariants.{NoteOn, NoteOff, KeyPressure, Control, Program, Pressure, Bend}
 use Rattle.mt_base.specs.Midi.{MidiWhat, Says, SysexOf, MetaOf, MidiEvent, channel_of}
 use Rattle.midi_model.specs.WellFormed.{IsWellFormed}
-use Rattle.midi_model.specs.Sysex.{Plays, doing}
+use Rattle.midi_model.specs.Sysex.{Plays}
 use Rattle.midi_model.specs.Params.{rpn, put}
 use Rattle.midi_model.specs.ParameterLaws.{PutGivesTheValue, PutLeavesTheOthers}
 use Rattle.midi_model.specs.Channel.{Channel, State, Role, Stored, EntryHigh, EntryLow, NrpnLow, NrpnHigh, RpnLow, RpnHigh, AllSoundOff, ResetControllers, AllNotesOff, Ignored, default_channel, counted, role, apply}
 use Rattle.midi_model.specs.Notes.{Note}
-use Rattle.midi_model.specs.Music.{Music, channel_at, asks, advance, step, state_at}
-use Rattle.midi_model.specs.MusicLaws.{AllFade, NotesFade, begun_by}
+use Rattle.midi_model.specs.Music.{Music, channel_at, step, state_at}
+use Rattle.midi_model.specs.MusicLaws.{AllFade, NotesFade}
 use Rattle.midi_model.specs.Bring.{bring}
 use Rattle.retune_model.specs.Table.{BendTarget}
 use Rattle.retune_model.specs.Options.{Options}
@@ -40,7 +40,7 @@ use Rattle.bend_laws.proofs.Changing.{said_at, BringsAll, Changes, causes_bring,
 use Rattle.bend_laws.proofs.Wellness.{IsFineSource}
 use Rattle.bend_laws.proofs.Shown.{begun_there}
 use Rattle.bend_laws.proofs.Roomy.{AreRoomy, wanted_roomy}
-use Rattle.bend_laws.proofs.Differing.{LittleDiffers, OneParameter, differing_itself, both_put, params_same, params_alike, message_little}
+use Rattle.bend_laws.proofs.Differing.{LittleDiffers, differing_itself, both_put, params_same, params_alike, message_little}
 use Rattle.bend_laws.proofs.Pressing.{AreHeldOn, keys_of, keys_differ, keys_few, held_few}
 
 -- what is cited of states, parameters and notes
@@ -89,12 +89,12 @@ begun_count laws port o table used k b t track c j v a part (Some x) aim =
 
 -- ---- the end of a note
 
-released_count : (port : ℕ) (o : Options) (table : Targets) (place : Pair → ℕ) (off : ℕ → ℕ → Msg) (c : ℕ) (x : Option Note) →
-    length (note_released port o table place off c x) ≤ 392
+pub released_count : (port : ℕ) (o : Options) (table : Targets) (place : Pair → ℕ) (off : ℕ → ℕ → Msg) (c : ℕ) (x : Option Note) →
+    length (note_released port o table place off c x) ≤ 1
 released_count port o table place off c None = omega arith
 released_count port o table place off c (Some n) = pick (target_of o table n)
   where
-    pick : (x : Option BendTarget) → length (off_at port place off c x) ≤ 392
+    pick : (x : Option BendTarget) → length (off_at port place off c x) ≤ 1
     pick None = omega arith
     pick (Some t) = omega arith
 
@@ -276,11 +276,11 @@ part_count : CountLaws → (port : ℕ) (o : Options) (table : Targets) (used : 
     (let e : MidiEvent = said_at t track msg in IsAround port o table used k b e → is_part o (channel_of msg) ≡ true →
     length (part_causes port o table k b.source (step b.source e) b.out t msg) ≤ 392)
 part_count laws port o table used k b t track (NoteOn c j zero) a part =
-    released_count port o table k.old (λ d i. NoteOn d i 0) c (pressed_note c j b.source.notes)
+    omega (arith, released_count port o table k.old (λ d i. NoteOn d i 0) c (pressed_note c j b.source.notes))
 part_count laws port o table used k b t track (NoteOn c j (suc v)) a part =
     begun_count laws port o table used k b t track c j v a part (bend_target_if o.range (table j t)) refl
 part_count laws port o table used k b t track (NoteOff c j v) a part =
-    released_count port o table k.old (λ d i. NoteOff d i v) c (pressed_note c j b.source.notes)
+    omega (arith, released_count port o table k.old (λ d i. NoteOff d i v) c (pressed_note c j b.source.notes))
 part_count laws port o table used k b t track (Control c n v) a part =
     control_count laws port o table used k b t track c n v (role n) refl a
 part_count laws port o table used k b t track (KeyPressure c j v) a part = changed_count laws port o table used k b t track (KeyPressure c j v) tt a

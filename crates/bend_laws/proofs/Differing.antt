@@ -1,5 +1,5 @@
 -- At how many places a channel's controllers and parameters differ from those before a message.
-use Rattle.std.proofs.Common.{◌≡◌, ◌≢◌, ◌⊎◌, ◌≤◌, ◌+◌, ◌*◌, ℕ, zero, suc, Bool, true, false, cond, List, [], ◌∷◌, ◌++◌, refl, ap, sym, ◌∙◌, subst, map, filter, length, set, nat_eq, arith, inl, inr}
+use Rattle.std.proofs.Common.{◌≡◌, ◌≢◌, ◌⊎◌, ◌≤◌, ◌+◌, ℕ, zero, suc, Bool, true, false, cond, List, [], ◌∷◌, refl, ap, sym, ◌∙◌, filter, length, set, nat_eq, arith, inl, inr}
 use Rattle.std.proofs.lemmas.Bool.{cases_eq, eq-eqb, and_from}
 use Rattle.std.proofs.lemmas.List.{length-append, length-map}
 use Rattle.mt_base.specs.declared.event.Msg.{Msg}
@@ -20,15 +20,15 @@ differing_itself (x ∷ xs) =
     let one : cond (nat_eq x x) 0 1 + differing xs xs ≡ 0 + differing xs xs = ap (λ b. cond b 0 1 + differing xs xs) (eq-eqb x x refl) in
     omega (arith, one, differing_itself xs)
 
-one_if : (b : Bool) → cond b 0 1 ≤ 1
-one_if true = omega arith
-one_if false = omega arith
+one_at_most : (b : Bool) → cond b 0 1 ≤ 1
+one_at_most true = omega arith
+one_at_most false = omega arith
 
 -- where one place of the second list is set
 pub differing_set : (xs ys : List ℕ) (i v : ℕ) → differing xs (set ys i v) ≤ 1 + differing xs ys
 differing_set [] ys i v = omega arith
 differing_set (x ∷ xs) [] i v = omega arith
-differing_set (x ∷ xs) (y ∷ ys) zero v = omega (arith, one_if (nat_eq x v))
+differing_set (x ∷ xs) (y ∷ ys) zero v = omega (arith, one_at_most (nat_eq x v))
 differing_set (x ∷ xs) (y ∷ ys) (suc i) v = omega (arith, differing_set xs ys i v)
 
 -- of the first
@@ -36,7 +36,7 @@ pub differing_first : (xs ys : List ℕ) (i v : ℕ) → differing (set xs i v) 
 differing_first [] ys i v = omega arith
 differing_first (x ∷ xs) [] zero v = omega arith
 differing_first (x ∷ xs) [] (suc i) v = omega arith
-differing_first (x ∷ xs) (y ∷ ys) zero v = omega (arith, one_if (nat_eq v y))
+differing_first (x ∷ xs) (y ∷ ys) zero v = omega (arith, one_at_most (nat_eq v y))
 differing_first (x ∷ xs) (y ∷ ys) (suc i) v = omega (arith, differing_first xs ys i v)
 
 -- the same place of both
@@ -44,7 +44,7 @@ pub differing_both : (xs ys : List ℕ) (i v w : ℕ) → differing (set xs i v)
 differing_both [] ys i v w = omega arith
 differing_both (x ∷ xs) [] zero v w = omega arith
 differing_both (x ∷ xs) [] (suc i) v w = omega arith
-differing_both (x ∷ xs) (y ∷ ys) zero v w = omega (arith, one_if (nat_eq v w))
+differing_both (x ∷ xs) (y ∷ ys) zero v w = omega (arith, one_at_most (nat_eq v w))
 differing_both (x ∷ xs) (y ∷ ys) (suc i) v w = omega (arith, differing_both xs ys i v w)
 
 reset_differs : (cs : List ℕ) → differing cs (reset_controls cs) ≤ 6
@@ -111,15 +111,18 @@ changed_count : (now wanted : State) → length (changed now wanted) ≡ differi
 changed_count now wanted =
     let a : List Entry = to_default now.own.params wanted.own.params in
     let b : List Entry = to_other now.own.params wanted.own.params in
-    omega (arith, length-append a b, length-map (filter (λ e. pair_eq (value_of wanted.own.params e.parameter) (default_value e.parameter)) now.own.params) made_default)
+    let at_default : List Entry =
+    filter (λ e. pair_eq (value_of wanted.own.params e.parameter) (default_value e.parameter)) now.own.params in
+    omega (arith, length-append a b, length-map at_default made_default)
 
-pair_itself : (v : ℕ × ℕ) → pair_eq v v ≡ true
-pair_itself v = and_from (nat_eq v.0 v.0) (nat_eq v.1 v.1) (eq-eqb v.0 v.0 refl) (eq-eqb v.1 v.1 refl)
+value_itself : (v : ℕ × ℕ) → pair_eq v v ≡ true
+value_itself v = and_from (nat_eq v.0 v.0) (nat_eq v.1 v.1) (eq-eqb v.0 v.0 refl) (eq-eqb v.1 v.1 refl)
 
 none_of : ChangesThoseThatDiffer → (now wanted : State) → IsWellFormed now → IsWellFormed wanted → (p : Parameter) →
     value_of now.own.params p ≡ value_of wanted.own.params p → entries_of p (changed now wanted) ≡ 0
 none_of those now wanted hn hw p h =
-    those now wanted p hn hw ∙ ap (λ b. cond b 0 1) (ap (λ v. pair_eq (value_of now.own.params p) v) (sym h) ∙ pair_itself (value_of now.own.params p))
+    those now wanted p hn hw
+    ∙ ap (λ b. cond b 0 1) (ap (λ v. pair_eq (value_of now.own.params p) v) (sym h) ∙ value_itself (value_of now.own.params p))
 
 -- no parameter differs where all have the same values, and one at most where all but one have
 pub params_same : ChangesThoseThatDiffer → (now wanted : State) → IsWellFormed now → IsWellFormed wanted →
@@ -132,7 +135,7 @@ pub params_alike : ChangesThoseThatDiffer → (now wanted : State) → IsWellFor
 params_alike those now wanted hn hw q h =
     let one = count_one q (changed now wanted) (λ p apart. none_of those now wanted hn hw p (h p apart)) in
     let is = those now wanted q hn hw in
-    omega (arith, changed_count now wanted, one, is, one_if (pair_eq (value_of now.own.params q) (value_of wanted.own.params q)))
+    omega (arith, changed_count now wanted, one, is, one_at_most (pair_eq (value_of now.own.params q) (value_of wanted.own.params q)))
 
 -- ---- a message
 

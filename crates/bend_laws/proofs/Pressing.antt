@@ -1,6 +1,6 @@
 -- The key pressures that an event changes, over all channels that a part holds: at most one for each note of the part that sounds, and at
 -- most 128 notes of a part sound.
-use Rattle.std.proofs.Common.{◌≡◌, ◌≢◌, ◌<◌, ◌≤◌, ◌+◌, ◌&&◌, ◌||◌, ℕ, Bool, true, false, cond, List, [], ◌∷◌, Option, Some, None, refl, ap, sym, ◌∙◌, subst, map, filter, length, nat_eq, eqb, arith, inl, inr}
+use Rattle.std.proofs.Common.{◌≡◌, ◌≢◌, ◌<◌, ◌≤◌, ◌+◌, ◌&&◌, ℕ, Bool, true, false, cond, List, [], ◌∷◌, Option, Some, None, refl, ap, sym, ◌∙◌, subst, map, filter, length, nat_eq, eqb, arith, inl, inr}
 use Rattle.std.specs.List.{AllByRecursion, IsDistinct, list_any}
 use Rattle.std.proofs.lemmas.Bool.{cases_Bool, cond_both, both_ways, eqb-true, ne_eqb, and_parts, or_cases, false_from_ne_true, and_from}
 use Rattle.std.proofs.lemmas.List.{length-map}
@@ -244,7 +244,8 @@ note_differs o table (h ∷ hs) n x ns xs f =
     let one = one_more o table h.pair n x ns xs f in
     let rest = note_differs o table hs n x ns xs f in
     both (is_sounding o n) (one_if (has_pair h.pair n (target_of o table n))) (hits o table hs n)
-    (differing (keys_of o table h.pair (n ∷ ns)) (keys_of o table h.pair (x ∷ xs))) (differing (keys_of o table h.pair ns) (keys_of o table h.pair xs))
+    (differing (keys_of o table h.pair (n ∷ ns)) (keys_of o table h.pair (x ∷ xs)))
+    (differing (keys_of o table h.pair ns) (keys_of o table h.pair xs))
     (keys_differ o table (n ∷ ns) (x ∷ xs) hs) (keys_differ o table ns xs hs) one rest
   where
     both : (b : Bool) (i j a c d e : ℕ) → a ≤ c + cond b i 0 → d ≤ e + cond b j 0 → a + d ≤ c + e + cond b (i + j) 0
@@ -263,7 +264,8 @@ notes_differ z o table place c hs own on (n ∷ ns) (x ∷ xs) f =
     kept : List Note
     kept = filter (λ y. is_heard o c y) ns
 
-    pick : (s d : Bool) → nat_eq n.channel c ≡ d → keys_differ o table (n ∷ ns) (x ∷ xs) hs ≤ keys_differ o table ns xs hs + cond s (hits o table hs n) 0 →
+    pick : (s d : Bool) → nat_eq n.channel c ≡ d →
+        keys_differ o table (n ∷ ns) (x ∷ xs) hs ≤ keys_differ o table ns xs hs + cond s (hits o table hs n) 0 →
         keys_differ o table ns xs hs ≤ length (map (λ (y : Note). y.key) kept) → hits o table hs n ≤ 1 →
         keys_differ o table (n ∷ ns) (x ∷ xs) hs ≤ length (map (λ (y : Note). y.key) (cond (s && d) (n ∷ kept) kept))
     pick true true e h g one = omega (arith, h, g, one)

@@ -1,7 +1,7 @@
 -- No part of a source without a fault has more than 16 parameters that count; so neither has what a pair needs, nor a channel as it is
 -- left.
-use Rattle.std.proofs.Common.{◌≡◌, ◌≢◌, ◌<◌, ◌≤◌, ◌&&◌, ◌||◌, ℕ, zero, suc, Bool, true, false, cond, List, [], ◌∷◌, Option, Some, None, refl, ap, sym, ◌∙◌, subst, filter, length, nat_eq, nat_lt, arith, inl, inr}
-use Rattle.std.proofs.lemmas.Bool.{cases_Bool, cases_eq, cond_both, eqb-true, ltb-false, and_from, and_right}
+use Rattle.std.proofs.Common.{◌≡◌, ◌≤◌, ◌||◌, ℕ, zero, suc, Bool, true, false, cond, List, [], ◌∷◌, Option, Some, None, refl, ap, sym, ◌∙◌, subst, filter, length, nat_eq, nat_lt, arith, inl, inr}
+use Rattle.std.proofs.lemmas.Bool.{cases_Bool, cases_eq, cond_both, eqb-true, ltb-false, and_from}
 use Rattle.std.proofs.lemmas.List.{get_or-set_other}
 use Rattle.retune_model.specs.Pairs.{Pair}
 use Rattle.mt_base.specs.declared.event.Msg.{Msg}
@@ -10,7 +10,7 @@ use Rattle.midi_model.specs.WellFormed.{IsWellFormed}
 use Rattle.midi_model.specs.Sysex.{doing}
 use Rattle.midi_model.specs.Params.{Entry, rank, counts, pair_eq, default_value, rpn, with_front, put}
 use Rattle.midi_model.specs.Channel.{Channel, default_channel, counted, apply}
-use Rattle.midi_model.specs.Music.{Music, quiet, channel_at, asks, advance, step}
+use Rattle.midi_model.specs.Music.{Music, channel_at, asks, advance, step}
 use Rattle.retune_model.specs.FaultLaws.{OnlyZoneEntriesAskForZones}
 use Rattle.retune_model.specs.Options.{Options}
 use Rattle.retune_model.specs.Faults.{Targets, is_part}
@@ -66,7 +66,8 @@ default_roomy = omega arith
 
 -- the message's own channel, by the fault that it hasn't
 own_roomy : (port : ℕ) (o : Options) (table : Targets) (m after : Music) (pairs : List Pair) (t : ℕ) (msg : Msg) →
-    kind_in port o table t m after false pairs (Says msg) ≡ None → is_part o (channel_of msg) ≡ true → counted (channel_at after (channel_of msg)) ≤ 16
+    kind_in port o table t m after false pairs (Says msg) ≡ None → is_part o (channel_of msg) ≡ true →
+    counted (channel_at after (channel_of msg)) ≤ 16
 own_roomy port o table m after pairs t msg e part =
     let h = none_holds (message_tests port o table t m after false pairs msg) e in
     let few : has_too_many o after msg ≡ false = h.1.1.1.1.1.1.1.1.1.0 in
@@ -77,7 +78,8 @@ own_roomy port o table m after pairs t msg e part =
     ]
 
 message_roomy : OnlyZoneEntriesAskForZones → (port : ℕ) (o : Options) (table : Targets) (m : Music) (pairs : List Pair) (t : ℕ) (msg : Msg) →
-    kind_in port o table t m (advance t (doing (Says msg)) m) false pairs (Says msg) ≡ None → AreRoomy o m → AreRoomy o (advance t (doing (Says msg)) m)
+    kind_in port o table t m (advance t (doing (Says msg)) m) false pairs (Says msg) ≡ None → AreRoomy o m →
+    AreRoomy o (advance t (doing (Says msg)) m)
 message_roomy zones port o table m pairs t msg e h c part =
     let after : Music = advance t (doing (Says msg)) m in
     let fit : IsFine port o table m after pairs t msg = fine port o table m after pairs t msg e in
@@ -142,7 +144,8 @@ left_roomy zones o table used plan ns last given (suc k) low =
         counted ((both_next plan.number o table (moment plan k) b x).left c) ≤ 16
     go None is h = h
     go (Some e) is h =
-        let next : source_at ns (suc k) ≡ step b.source e = ap (source_next (source_at ns k)) is ∙ ap (λ m. step m e) (sym (source_is o table plan ns k)) in
+        let next : source_at ns (suc k) ≡ step b.source e =
+        ap (source_next (source_at ns k)) is ∙ ap (λ m. step m e) (sym (source_is o table plan ns k)) in
         let roomy : AreRoomy o (step b.source e) = subst (AreRoomy o) next (source_roomy zones o table used plan ns last given (suc k) low) in
         left_next o table plan k (step b.source e) (resets (doing e.what)) b.left
         (λ p begins. wanted_roomy o table (step b.source e) p roomy (given.parts (suc k) p low begins.is))

@@ -1,15 +1,13 @@
 -- In each track what is written for a file takes at most 1,600 bytes for each event beside what the events take.
-use Rattle.std.proofs.Common.{◌≡◌, ◌≢◌, ◌<◌, ◌≤◌, ◌+◌, ◌*◌, ◌++◌, ℕ, suc, Bool, true, false, cond, List, [], ◌∷◌, Option, Some, None, refl, ap, sym, ◌∙◌, subst, map, length, nat_eq, eqb, arith, inl, inr}
+use Rattle.std.proofs.Common.{◌≡◌, ◌≢◌, ◌<◌, ◌≤◌, ◌+◌, ◌*◌, ◌++◌, ℕ, suc, Bool, true, false, cond, List, [], ◌∷◌, Some, None, refl, ap, sym, ◌∙◌, subst, map, length, nat_eq, eqb, arith, inl, inr}
 use Rattle.std.proofs.lemmas.Bool.{cases_eq, eq-eqb, ne_eqb}
-use Rattle.std.proofs.lemmas.List.{length-append}
-use Rattle.std.proofs.lemmas.List.Elements.{filter-append}
 use Rattle.retune_model.specs.Pairs.{Pair}
-use Rattle.mt_base.specs.Midi.{MidiWhat, Says, MidiEvent}
+use Rattle.mt_base.specs.Midi.{MidiWhat, MidiEvent}
 use Rattle.midi_model.specs.WellFormed.{IsWellFormed}
 use Rattle.midi_model.specs.Merged.{of_track, timed}
 use Rattle.midi_model.specs.SizeLaws.{most_of_track, WrittenIsWithinMost}
 use Rattle.midi_model.specs.Writing.{track_bytes}
-use Rattle.midi_model.specs.Music.{Music, step}
+use Rattle.midi_model.specs.Music.{step}
 use Rattle.retune_model.specs.Options.{Options}
 use Rattle.retune_model.specs.Faults.{Targets}
 use Rattle.retune_model.specs.Ports.{Numbered, port_of, ports_after, all_zero, with_event, of_port_from, of_port}
@@ -30,7 +28,7 @@ use Rattle.bend_laws.proofs.Ported.{PortFacts}
 use Rattle.bend_laws.proofs.Filed.{OnPort, on_port}
 use Rattle.bend_laws.proofs.Roomy.{AreRoomy, source_roomy, left_roomy}
 use Rattle.bend_laws.proofs.Bytes.{TakeAtMost, most_in, none_take, one_takes, said_take}
-use Rattle.bend_laws.proofs.Causing.{CountLaws, IsAround, AreFew, IsShort, event_count}
+use Rattle.bend_laws.proofs.Causing.{CountLaws, IsAround, IsShort, event_count}
 
 -- ---- an event of a port
 

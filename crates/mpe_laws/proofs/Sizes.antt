@@ -11,20 +11,21 @@ use Rattle.mt_base.specs.Midi.{MidiWhat, Says, SysexOf, MetaOf, Timed, MidiEvent
 use Rattle.midi_model.specs.Sysex.{Doing, Plays, Resets, Tunes, Nothing, doing}
 use Rattle.midi_model.specs.Merged.{of_track, timed}
 use Rattle.midi_model.specs.SizeLaws.{most_of_track}
-use Rattle.midi_model.specs.Notes.{Note}
 use Rattle.midi_model.specs.Music.{Music, channel_at, play}
 use Rattle.midi_model.specs.Bring.{where_differs, registered}
 use Rattle.retune_model.specs.Table.{BendTarget}
 use Rattle.retune_model.specs.Options.{Options}
 use Rattle.retune_model.specs.PlaysTheSame.{bend_target_if}
-use Rattle.retune_model.specs.Faults.{Targets, is_part, target_of}
+use Rattle.retune_model.specs.Faults.{Targets, is_part}
 use Rattle.retune_model.specs.Pairs.{Pair, is_same_pair}
 use Rattle.retune_model.specs.Ports.{Numbered, port_of, ports_after, all_zero}
 use Rattle.channel_model.specs.Choice.{bend_value}
-use Rattle.channel_model.specs.BendOutput.{PortRuns, pair_with, placed_at, before_it, pressed_note, note_released, off_at}
+use Rattle.channel_model.specs.BendOutput.{PortRuns, pair_with, placed_at, before_it, pressed_note}
 use Rattle.channel_model.specs.MpeOutput.{Zone, Zoned, unzoned, master_of, zone_of, members_from, range_each, zone_setup, zones_setup, member_begins, zone_causes, in_zone, setup_before, setup_behind, zoned_block}
 use Rattle.bend_laws.proofs.Lists.{map_append}
 use Rattle.bend_laws.proofs.Playing.{saying}
+use Rattle.bend_laws.proofs.Bytes.{most_in}
+use Rattle.bend_laws.proofs.Causing.{released_count}
 use Rattle.mpe_laws.proofs.Passing.{setup_of}
 use Rattle.mpe_laws.proofs.Filed.{setup_first, caused, file_from, file_output, state_after, numbered}
 
@@ -65,23 +66,14 @@ begins_count z o there out place c v (Some t) =
     let one : length first ≤ 1 = differs_count (place p) (channel_at out (place p)).bend b (is_member is_same_pair there p) in
     omega (arith, length-append first (NoteOn (place p) t.key v ∷ []), one)
 
-released_count : (z : ℕ) (o : Options) (table : Targets) (place : Pair → ℕ) (off : ℕ → ℕ → Msg) (c : ℕ) (x : Option Note) →
-    length (note_released z o table place off c x) ≤ 2
-released_count z o table place off c None = omega arith
-released_count z o table place off c (Some n) = pick (target_of o table n)
-  where
-    pick : (x : Option BendTarget) → length (off_at z place off c x) ≤ 2
-    pick None = omega arith
-    pick (Some t) = omega arith
-
 zone_causes_count : (z : ℕ) (o : Options) (table : Targets) (there : List Pair) (before out : Music) (was is : Pair → ℕ) (g t : ℕ) (msg : Msg) →
     length (zone_causes z o table there before out was is g t msg) ≤ 2
 zone_causes_count z o table there before out was is g t (NoteOn c k zero) =
-    released_count z o table was (λ d j. NoteOn d j 0) c (pressed_note c k before.notes)
+    omega (arith, released_count z o table was (λ d j. NoteOn d j 0) c (pressed_note c k before.notes))
 zone_causes_count z o table there before out was is g t (NoteOn c k (suc v)) =
     begins_count z o there out is c (suc v) (bend_target_if o.range (table k t))
 zone_causes_count z o table there before out was is g t (NoteOff c k v) =
-    released_count z o table was (λ d j. NoteOff d j v) c (pressed_note c k before.notes)
+    omega (arith, released_count z o table was (λ d j. NoteOff d j v) c (pressed_note c k before.notes))
 zone_causes_count z o table there before out was is g t (KeyPressure c k v) = omega arith
 zone_causes_count z o table there before out was is g t (Control c n v) = omega arith
 zone_causes_count z o table there before out was is g t (Program c p) = omega arith
@@ -94,9 +86,6 @@ causes_count z o table there before out was is t msg None = omega arith
 causes_count z o table there before out was is t msg (Some w) = zone_causes_count z o table there before out was is (master_of w) t msg
 
 -- ---- how many bytes in a track
-
-abbrev most_in : ℕ → List MidiEvent → ℕ
-most_in t es = most_of_track (map timed (of_track t es))
 
 sum_append : (xs ys : List Timed) → most_of_track (xs ++ ys) ≡ most_of_track xs + most_of_track ys
 sum_append [] ys = omega arith
