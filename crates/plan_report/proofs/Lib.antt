@@ -1,0 +1,4 @@
+pub mod Fronts
+pub mod Pieces
+pub mod Counted
+pub mod Reporting
