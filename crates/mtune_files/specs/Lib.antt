@@ -2,3 +2,4 @@ pub mod Counts
 pub mod Names
 pub mod Outside
 pub mod Mem
+pub mod Sample

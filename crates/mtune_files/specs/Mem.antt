@@ -1,5 +1,5 @@
 -- What files in memory tell, and which of their calls fail.
-use Rattle.std.specs.Prelude.{ℕ, ◌≡◌, ◌⊎◌, ◌==◌, List, [], ◌∷◌, map as map_list, take, Some, None, Bool, true, false, IsSome, if◌then◌else◌}
+use Rattle.std.specs.Prelude.{ℕ, ◌≡◌, ◌⊎◌, ◌==◌, List, [], ◌∷◌, map as map_list, Some, None, Bool, true, false, IsSome, if◌then◌else◌}
 use Rattle.std.specs.declared.option.Option.{Option}
 use Rattle.std.specs.FinMap as map
 use Rattle.mtune_files.specs.Counts.{next_call}

@@ -1,4 +1,4 @@
-use Rattle.std.proofs.Common.{rules, refl}
+use Rattle.std.proofs.Common.{rules}
 use Rattle.mtune_files.proofs.Fronts.{appends_front}
 use Rattle.mtune_files.proofs.mem.MemFilesFiles.say.Goals as goal
 
