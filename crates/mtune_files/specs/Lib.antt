@@ -3,3 +3,4 @@ pub mod Names
 pub mod Outside
 pub mod Mem
 pub mod Sample
+pub mod SampleLaws

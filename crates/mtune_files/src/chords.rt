@@ -6,7 +6,7 @@ ghost use Rattle.midi_model.specs.Spelling.{Spells};
 ghost use Rattle.midi_model.specs.Writing.{written};
 ghost use Rattle.mtune_files.specs.Sample.{chord_channel, chord_start, chord_end, at_tick, events_at, sample_events, sample_file, sample_bytes};
 
-use midi_model::END_OF_TRACK;
+use midi_model::{END_OF_TRACK, MOST_BYTES};
 use mt_base::{Channel, Memory, Msg, What};
 use smf_write::{TrackText, finish};
 use std::alloc::Global;
@@ -185,14 +185,15 @@ fn track_of(alloc: Global, chords: u32) -> Result<TrackText, Memory>
     Ok(track)
 }
 
-/// A large valid file from a number: so many chords, 1 to `MOST_CHORDS`, of three notes each, on
-/// the first eight channels.
+/// A large valid file from a number: so many chords, 1 to `MOST_CHORDS`. One begins every 240 ticks and sounds
+/// for 480; each has three notes, and they take turns on the first eight channels. The bytes are those of a
+/// Standard MIDI File of format 0 with 480 ticks a quarter note.
 pub fn sample(alloc: Global, chords: u32) -> Result<Vec<u8>, Memory>
     requires some { 1 ≤ chords }
     requires few { chords ≤ MOST_CHORDS }
     ensures bytes { IfOk result (λ v. v.items ≡ sample_bytes chords) }
     ensures spells { IfOk result (λ v. Spells v.items (sample_file chords)) }
-    ensures short { IfOk result (λ v. length v.items < 4194304) }
+    ensures short { IfOk result (λ v. length v.items < MOST_BYTES) }
 {
     let track = track_of(alloc, chords)?;
     let mut tracks = Vec::new(alloc);

@@ -6,12 +6,14 @@ mod counts;
 mod files;
 mod mem;
 mod which;
+mod worked;
 
 pub use chords::{MOST_CHORDS, sample};
 pub use counts::Counts;
 pub use files::{Files, LoadFault, SayFailed, StoreFailed};
 pub use mem::MemFiles;
 pub use which::Which;
+pub use worked::sample_examples;
 
 #[cfg(test)]
 mod tests;
