@@ -94,12 +94,12 @@ chord_starts i =
     let volume : 40 + i % 80 ≤ 127 = omega arith in
     ((channel, program), ((channel, lit≤ tt, volume), ((channel, low, lit≤ tt), ((channel, middle, lit≤ tt), ((channel, high, lit≤ tt), tt)))))
 
-all_both : (xs ys : List Msg) → AllByRecursion (λ m. IsValidMsg m) xs → AllByRecursion (λ m. IsValidMsg m) ys → AllByRecursion (λ m. IsValidMsg m) (xs ++ ys)
-all_both [] ys f g = g
-all_both (x ∷ xs) ys f g = (f.0, all_both xs ys f.1 g)
+pub all_both : {X : Type 0} (P : X → Type 0) (xs ys : List X) → AllByRecursion P xs → AllByRecursion P ys → AllByRecursion P (xs ++ ys)
+all_both P [] ys f g = g
+all_both P (x ∷ xs) ys f g = (f.0, all_both P xs ys f.1 g)
 
 said_valid : (n i : ℕ) → AllByRecursion (λ m. IsValidMsg m) (said_at n i)
-said_valid n i = all_both (if nat_le 2 i then chord_end (i - 2) else []) (if nat_lt i n then chord_start i else [])
+said_valid n i = all_both (λ m. IsValidMsg m) (if nat_le 2 i then chord_end (i - 2) else []) (if nat_lt i n then chord_start i else [])
     (elim (cases_Bool (leb 2 i)) [ inl a ↦ rw a (chord_ends (i - 2)) | inr a ↦ rw a tt ])
     (elim (cases_Bool (ltb i n)) [ inl a ↦ rw a (chord_starts i) | inr a ↦ rw a tt ])
 
@@ -114,9 +114,12 @@ from_step n i (suc k) before few is order =
     (at_front (240 * i) (said_at n i) (rest ++ end) before (said_valid n i) (omega arith) (omega arith)
     (λ last le. from_step n (i + 1) k last few (omega arith) (omega arith)))
 
-pub sample_writable : (n : ℕ) → n ≤ 100000 → All (IsWritable 0) (sample_events n ∷ [])
+pub events_writable : (n : ℕ) → n ≤ 100000 → IsWritable 0 (sample_events n)
 unfolding sample_events
-sample_writable n few = All-cons (IsWritable 0) (sample_events n) [] (from_step n 0 (n + 2) 0 (omega arith) (omega arith) (omega arith)) (All-nil (IsWritable 0))
+events_writable n few = from_step n 0 (n + 2) 0 (omega arith) (omega arith) (omega arith)
+
+pub sample_writable : (n : ℕ) → n ≤ 100000 → All (IsWritable 0) (sample_events n ∷ [])
+sample_writable n few = All-cons (IsWritable 0) (sample_events n) [] (events_writable n few) (All-nil (IsWritable 0))
 
 -- ---- how many bytes a sample has
 

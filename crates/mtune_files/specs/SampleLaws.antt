@@ -14,10 +14,10 @@ chord_notes i = map (λ k. record {
   onset = 240 * i;
   velocity = 64;
   voice = record { high = 0; low = 0; program = i % 128 };
-  release = Some (240 * i + 480, 64);
+  release = Some (240 * (i + 2), 64);
   captured = false;
   pressure = 0;
-  ended = Some (240 * i + 480);
+  ended = Some (240 * (i + 2));
 }) (chord_keys i)
 
 -- all notes of a sample of n chords are those of its chords

@@ -13,7 +13,7 @@ pub use counts::Counts;
 pub use files::{Files, LoadFault, SayFailed, StoreFailed};
 pub use mem::MemFiles;
 pub use which::Which;
-pub use worked::sample_examples;
+pub use worked::{sample_examples, sample_laws};
 
 #[cfg(test)]
 mod tests;

@@ -1,8 +1,15 @@
-//! Worked samples. The function does nothing: its contract is what the checker computes.
+//! What is heard of a sample, and worked samples. The functions do nothing: their contracts are what is stated.
 
-ghost use Rattle.std.specs.Prelude.{◌≡◌, [], ◌∷◌};
+ghost use Rattle.std.specs.Prelude.{◌≡◌, ◌≤◌, ℕ, [], ◌∷◌};
 ghost use Rattle.mtune_files.specs.Sample.{sample_bytes};
 ghost use Rattle.mtune_files.specs.SampleLaws.{ChordsAreHeard};
+
+use crate::chords::MOST_CHORDS;
+
+/// The notes of a sample are those of its chords, one after the other, each of which sounds for 480 ticks.
+pub fn sample_laws()
+    ensures heard { (n : ℕ) → 1 ≤ n → n ≤ MOST_CHORDS → ChordsAreHeard n }
+{}
 
 /// The bytes of samples of one chord and of two; and what is heard of one of ten.
 pub fn sample_examples()
