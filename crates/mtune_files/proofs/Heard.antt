@@ -38,7 +38,7 @@ plain_set ss c s plain low is = record {
   count = length-set ss c s ∙ plain.count;
   each = λ d. elim (cases_eq d c) [
     | inl same ↦ subst (λ (x : ℕ). IsPlain (get_or (set ss c s) x default_channel)) (sym same)
-      (subst IsPlain (sym (get_or-set_same ss c s default_channel (omega (arith, plain.count)))) is)
+        (subst IsPlain (sym (get_or-set_same ss c s default_channel (omega (arith, plain.count)))) is)
     | inr other ↦ subst IsPlain (sym (get_or-set_other ss c d s default_channel other)) (plain.each d)
   ];
 }
@@ -86,6 +86,16 @@ pub each_from : (P Q : Note → Type 0) → ((n : Note) → P n → Q n) → (ns
 each_from P Q to [] h = tt
 each_from P Q to (n ∷ ns) h = (to n h.0, each_from P Q to ns h.1)
 
+-- what has ended is idle, and apart from every key
+abbrev pub IsSilent : Note → Type 0
+IsSilent n = sounds n ≡ false
+
+pub idle_of : (ns : List Note) → AllByRecursion IsSilent ns → AllByRecursion IsIdle ns
+idle_of = each_from IsSilent IsIdle (λ n h. inl h)
+
+pub apart_of : (c k : ℕ) (ns : List Note) → AllByRecursion IsSilent ns → AllByRecursion (IsApart c k) ns
+apart_of c k = each_from IsSilent (IsApart c k) (λ n h. inl h)
+
 map_still : (f : Note → Note) (ns : List Note) → AllByRecursion (λ n. f n ≡ n) ns → map f ns ≡ ns
 map_still f [] h = refl
 map_still f (n ∷ ns) h = let first = h.0 in let others = map_still f ns h.1 in cc
@@ -103,7 +113,8 @@ settle_all ss t ns idle = map_still (settle_note ss no_zones t) ns (each_from Is
 
 pub program_heard : (ss : List Channel) (ns : List Note) (t c p : ℕ) → AllByRecursion IsIdle ns
     → let s = get_or ss c default_channel in
-    step (music ss ns) (heard_at t (Program c p)) ≡ music (set ss c (record s { voice = record { high = control_of s 0; low = control_of s 32; program = p } })) ns
+    step (music ss ns) (heard_at t (Program c p))
+    ≡ music (set ss c (record s { voice = record { high = control_of s 0; low = control_of s 32; program = p } })) ns
 program_heard ss ns t c p idle = same_music _ _ _ _ refl (settle_all _ t ns idle)
 
 pub volume_heard : (ss : List Channel) (ns : List Note) (t c v : ℕ) → AllByRecursion IsIdle ns
@@ -116,24 +127,37 @@ pub on_heard : (ss : List Channel) (ns : List Note) (t c k : ℕ) → AllByRecur
 on_heard ss ns t c k idle apart =
     let new = begun (music ss ns) t c k 64 in
     let ss2 = set ss c (get_or ss c default_channel) in
+    let uncut = map_still (cut_off t c k) ns (each_from (IsApart c k) _ (cut_apart t c k) ns apart) in
     same_music _ _ _ _ (set-get_or ss c default_channel)
-    (ap (λ (xs : List Note). map (settle_note ss2 no_zones t) (xs ++ new ∷ [])) (map_still (cut_off t c k) ns (each_from (IsApart c k) _ (cut_apart t c k) ns apart))
+    (ap (λ (xs : List Note). map (settle_note ss2 no_zones t) (xs ++ new ∷ [])) uncut
     ∙ settle_all ss2 t (ns ++ new ∷ []) (all_both IsIdle ns (new ∷ []) idle (inr refl, tt)))
 
 -- a note whose key is down, and the same once it has ended
 abbrev pub down : ℕ → ℕ → ℕ → ℕ → Note
-down c k o p = record { channel = c; key = k; onset = o; velocity = 64; voice = record { high = 0; low = 0; program = p }; release = None; captured = false; pressure = 0; ended = None }
+down c k o p = record {
+  channel = c;
+  key = k;
+  onset = o;
+  velocity = 64;
+  voice = record { high = 0; low = 0; program = p };
+  release = None;
+  captured = false;
+  pressure = 0;
+  ended = None;
+}
 
 abbrev pub gone : ℕ → ℕ → ℕ → ℕ → ℕ → Note
-gone c k o p t = record { channel = c; key = k; onset = o; velocity = 64; voice = record { high = 0; low = 0; program = p }; release = Some (t, 64); captured = false; pressure = 0; ended = Some t }
+gone c k o p t = record (down c k o p) { release = Some (t, 64); ended = Some t }
 
 released : (c k o p t : ℕ) → release_key t c k 64 (down c k o p) ≡ record (down c k o p) { release = Some (t, 64) }
 released c k o p t = rw (eq-eqb c c refl, eq-eqb k k refl) refl
 
-settled : (ss : List Channel) (c k o p t : ℕ) → ArePlain ss → settle_note ss no_zones t (record (down c k o p) { release = Some (t, 64) }) ≡ gone c k o p t
+settled : (ss : List Channel) (c k o p t : ℕ) → ArePlain ss
+    → settle_note ss no_zones t (record (down c k o p) { release = Some (t, 64) }) ≡ gone c k o p t
 settled ss c k o p t plain = rw (governs_itself c, (plain.each c).hold) refl
 
-pub off_heard : (ss : List Channel) (before after : List Note) (t c k o p : ℕ) → ArePlain ss → AllByRecursion IsIdle before → AllByRecursion IsIdle after
+pub off_heard : (ss : List Channel) (before after : List Note) (t c k o p : ℕ) → ArePlain ss
+    → AllByRecursion IsIdle before → AllByRecursion IsIdle after
     → AllByRecursion (IsApart c k) before → AllByRecursion (IsApart c k) after
     → step (music ss (before ++ down c k o p ∷ after)) (heard_at t (NoteOff c k 64)) ≡ music ss ((before ++ gone c k o p t ∷ []) ++ after)
 off_heard ss before after t c k o p plain idle idle2 apart apart2 =
@@ -142,9 +166,13 @@ off_heard ss before after t c k o p plain idle idle2 apart apart2 =
     let settle : Note → Note = settle_note ss2 no_zones t in
     let release : Note → Note = release_key t c k 64 in
     let a = down c k o p in
+    let kept : (ns : List Note) → AllByRecursion (IsApart c k) ns → AllByRecursion (λ n. release n ≡ n) ns =
+    each_from (IsApart c k) (λ n. release n ≡ n) (release_apart t c k 64) in
+    let rests : (ns : List Note) → AllByRecursion IsIdle ns → AllByRecursion (λ n. settle n ≡ n) ns =
+    each_from IsIdle (λ n. settle n ≡ n) (settle_idle ss2 no_zones t) in
     same_music _ _ _ _ (set-get_or ss c default_channel)
-    (ap (λ (xs : List Note). map settle xs) (map_but release before a after (each_from (IsApart c k) _ (release_apart t c k 64) before apart) (each_from (IsApart c k) _ (release_apart t c k 64) after apart2))
-    ∙ map_but settle before (release a) after (each_from IsIdle _ (settle_idle ss2 no_zones t) before idle) (each_from IsIdle _ (settle_idle ss2 no_zones t) after idle2)
+    (ap (λ (xs : List Note). map settle xs) (map_but release before a after (kept before apart) (kept after apart2))
+    ∙ map_but settle before (release a) after (rests before idle) (rests after idle2)
     ∙ ap (λ (x : Note). before ++ settle x ∷ after) (released c k o p t)
     ∙ ap (λ (x : Note). before ++ x ∷ after) (settled ss2 c k o p t plain2)
     ∙ sym (append_assoc before (gone c k o p t ∷ []) after))

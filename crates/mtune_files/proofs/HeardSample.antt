@@ -1,5 +1,5 @@
 -- What is heard of a whole sample.
-use Rattle.std.proofs.Common.{◌≡◌, ◌≢◌, ℕ, zero, suc, ◌+◌, ◌-◌, ◌*◌, ◌<◌, ◌≤◌, List, [], ◌∷◌, ◌++◌, map, replicate, true, false, ltb, refl, sym, ap, ◌∙◌, subst, append_assoc, arith, inl, inr}
+use Rattle.std.proofs.Common.{◌≡◌, ◌≢◌, ℕ, zero, suc, ◌+◌, ◌-◌, ◌*◌, ◌<◌, ◌≤◌, List, [], ◌∷◌, ◌++◌, map, replicate, true, ltb, refl, sym, ap, ◌∙◌, subst, append_assoc, arith, inl, inr}
 use Rattle.std.specs.List.{AllByRecursion, flat_map, range_with_len}
 use Rattle.std.proofs.lemmas.Bool.{cases_Bool, cases_eq, eq-eqb, ne_eqb, le-leb, lt-ltb, le-ltb, ltb-true, ltb-false}
 use Rattle.std.proofs.lemmas.List.{map-append, append-nil, get_or-replicate}
@@ -9,19 +9,13 @@ use Rattle.mt_base.specs.Midi.{MidiEvent, Timed, placed, end_of_track}
 use Rattle.midi_model.specs.Channel.{Channel, default_channel}
 use Rattle.midi_model.specs.Merged.{precedes, put_in, sorted, merged}
 use Rattle.midi_model.specs.Music.{Music, play, quiet}
-use Rattle.midi_model.specs.Notes.{Note, sounds}
+use Rattle.midi_model.specs.Notes.{Note}
 use Rattle.midi_model.specs.Writing.{IsWritable}
 use Rattle.mtune_files.specs.Sample.{chord_channel, chord_start, chord_end, said_at, at_tick, events_at, sample_events, sample_file}
 use Rattle.mtune_files.specs.SampleLaws.{chord_notes, ChordsAreHeard}
 use Rattle.mtune_files.proofs.Sampled.{all_both, events_writable}
-use Rattle.mtune_files.proofs.Heard.{music, IsPlain, ArePlain, IsIdle, each_from}
+use Rattle.mtune_files.proofs.Heard.{music, IsPlain, ArePlain, IsIdle, IsSilent, idle_of, each_from}
 use Rattle.mtune_files.proofs.HeardChords.{after_all, after_none, after_both, said, IsAway, downs, gones, begins, ends}
-
-abbrev IsSilent : Note → Type 0
-IsSilent n = sounds n ≡ false
-
-idle_of : (ns : List Note) → AllByRecursion IsSilent ns → AllByRecursion IsIdle ns
-idle_of ns h = each_from IsSilent IsIdle (λ n s. inl s) ns h
 
 away_of : (c : ℕ) (ns : List Note) → AllByRecursion IsSilent ns → AllByRecursion (IsAway c) ns
 away_of c ns h = each_from IsSilent (IsAway c) (λ n s. inl s) ns h
@@ -52,7 +46,9 @@ end_said n p le =
     rw (le-leb 2 (p + 1 + 1) (omega arith), le-ltb (p + 1 + 1) n le, back) refl
 
 said_both : (t : ℕ) (xs ys : List Msg) → said t (xs ++ ys) ≡ said t xs ++ said t ys
-said_both t xs ys = ap (λ (es : List Timed). map (placed 0) es) (map-append (at_tick t) xs ys) ∙ map-append (placed 0) (map (at_tick t) xs) (map (at_tick t) ys)
+said_both t xs ys =
+    ap (λ (es : List Timed). map (placed 0) es) (map-append (at_tick t) xs ys)
+    ∙ map-append (placed 0) (map (at_tick t) xs) (map (at_tick t) ys)
 
 heard : ℕ → ℕ → List MidiEvent
 heard n i = map (placed 0) (events_at n i)
@@ -82,7 +78,9 @@ chord_over n p ss done live le plain silent idle away =
 
 -- a chord ends and another begins
 chord_follows : (n p : ℕ) (ss : List Channel) (done : List Note) → p + 1 + 1 < n → ArePlain ss → AllByRecursion IsSilent done
-    → (ss2 : List Channel) × ArePlain ss2 × (after_all (music ss (done ++ (downs p ++ downs (p + 1)))) (heard n (p + 1 + 1)) ≡ music ss2 ((done ++ chord_notes p) ++ (downs (p + 1) ++ downs (p + 1 + 1))))
+    → (ss2 : List Channel) × ArePlain ss2
+    × (after_all (music ss (done ++ (downs p ++ downs (p + 1)))) (heard n (p + 1 + 1))
+    ≡ music ss2 ((done ++ chord_notes p) ++ (downs (p + 1) ++ downs (p + 1 + 1))))
 unfolding heard
 chord_follows n p ss done lt plain silent =
     let t = 240 * (p + 1 + 1) in
@@ -94,15 +92,18 @@ chord_follows n p ss done lt plain silent =
     let other : chord_channel (p + 1) ≢ chord_channel p = omega arith in
     let other2 : chord_channel (p + 1) ≢ c = omega arith in
     let next = begins (p + 1 + 1) ss (before ++ live) plain (all_both IsIdle before live (idle_of before over) (downs_idle (p + 1)))
-      (all_both (IsAway c) before live (away_of c before over) (downs_away c (p + 1) other2)) in
-    (next.0, next.1,
+    (all_both (IsAway c) before live (away_of c before over) (downs_away c (p + 1) other2)) in
+    let over_first = ends p t ss done live plain silent (downs_idle (p + 1)) (downs_away (chord_channel p) (p + 1) other) in (
+      next.0,
+      next.1,
       ap (λ (ms : List Msg). after_all (music ss (done ++ (downs p ++ live))) (said t ms)) (both_said n p lt)
-      ∙ ap (λ (es : List MidiEvent). after_all (music ss (done ++ (downs p ++ live))) es) (said_both t (chord_end p) (chord_start (p + 1 + 1)))
-      ∙ after_both (music ss (done ++ (downs p ++ live))) (said t (chord_end p)) (said t (chord_start (p + 1 + 1)))
-      ∙ ap (λ (m : Music). after_all m (said t (chord_start (p + 1 + 1)))) (ends p t ss done live plain silent (downs_idle (p + 1)) (downs_away (chord_channel p) (p + 1) other))
-      ∙ next.2
-      ∙ ap (λ (ns : List Note). music next.0 ns) (append_assoc before live (downs (p + 1 + 1)))
-      ∙ ap (λ (ns : List Note). music next.0 ((done ++ ns) ++ (live ++ downs (p + 1 + 1)))) (notes_gone p))
+          ∙ ap (λ (es : List MidiEvent). after_all (music ss (done ++ (downs p ++ live))) es) (said_both t (chord_end p) (chord_start (p + 1 + 1)))
+          ∙ after_both (music ss (done ++ (downs p ++ live))) (said t (chord_end p)) (said t (chord_start (p + 1 + 1)))
+          ∙ ap (λ (m : Music). after_all m (said t (chord_start (p + 1 + 1)))) over_first
+          ∙ next.2
+          ∙ ap (λ (ns : List Note). music next.0 ns) (append_assoc before live (downs (p + 1 + 1)))
+          ∙ ap (λ (ns : List Note). music next.0 ((done ++ ns) ++ (live ++ downs (p + 1 + 1)))) (notes_gone p),
+    )
 
 -- ---- all steps
 
@@ -116,8 +117,9 @@ from_two n p zero ss done is plain silent =
     let more = done ++ chord_notes p in
     let over = all_both IsSilent done (chord_notes p) silent (refl, (refl, (refl, tt))) in
     let other : chord_channel q ≢ chord_channel p = omega arith in
+    let first_over = chord_over n p ss done (downs q) (omega arith) plain silent (downs_idle q) (downs_away (chord_channel p) q other) in
     ap (λ (m : Music). m.notes) (heard_more start n (p + 1 + 1) ((q + 1 + 1) ∷ [])
-    ∙ ap (λ (m : Music). after_all m (heard_all n ((q + 1 + 1) ∷ []))) (chord_over n p ss done (downs q) (omega arith) plain silent (downs_idle q) (downs_away (chord_channel p) q other))
+    ∙ ap (λ (m : Music). after_all m (heard_all n ((q + 1 + 1) ∷ []))) first_over
     ∙ heard_more (music ss (more ++ downs q)) n (q + 1 + 1) []
     ∙ ap (λ (m : Music). after_all m (heard_all n [])) (chord_over n q ss more [] (omega arith) plain over tt tt)
     ∙ heard_none (music ss ((more ++ chord_notes q) ++ [])) n)
@@ -127,8 +129,9 @@ from_two n p (suc k) ss done is plain silent =
     let next = chord_follows n p ss done (omega arith) plain silent in
     let more = done ++ chord_notes p in
     let over = all_both IsSilent done (chord_notes p) silent (refl, (refl, (refl, tt))) in
-    ap (λ (m : Music). m.notes) (heard_more (music ss (done ++ (downs p ++ downs (p + 1)))) n (p + 1 + 1) (range_with_len (p + 1 + 1 + 1) (suc (suc k)))
-    ∙ ap (λ (m : Music). after_all m (heard_all n (range_with_len (p + 1 + 1 + 1) (suc (suc k))))) next.2)
+    let start = music ss (done ++ (downs p ++ downs (p + 1))) in
+    let rest = range_with_len (p + 1 + 1 + 1) (suc (suc k)) in
+    ap (λ (m : Music). m.notes) (heard_more start n (p + 1 + 1) rest ∙ ap (λ (m : Music). after_all m (heard_all n rest)) next.2)
     ∙ from_two n (p + 1) k next.0 more (omega arith) next.1 over
     ∙ append_assoc done (chord_notes p) (flat_map chord_notes (range_with_len (p + 1) (suc (suc k))))
 
@@ -150,20 +153,24 @@ said_second : (n : ℕ) → 1 < n → said_at n 1 ≡ chord_start 1
 said_second n lt = rw (lt-ltb 1 n lt) refl
 
 -- the first two chords begin
-two_begin : (n : ℕ) → 1 < n → (ss : List Channel) × ArePlain ss × (after_all (after_all quiet (heard n 0)) (heard n 1) ≡ music ss (downs 0 ++ downs 1))
+two_begin : (n : ℕ) → 1 < n
+    → (ss : List Channel) × ArePlain ss × (after_all (after_all quiet (heard n 0)) (heard n 1) ≡ music ss (downs 0 ++ downs 1))
 unfolding heard
 two_begin n lt =
     let first = begins 0 (replicate 16 default_channel) [] plain_at_first tt tt in
     let other : chord_channel 0 ≢ chord_channel 1 = omega arith in
-    let second = begins 1 first.0 (downs 0) first.1 (downs_idle 0) (downs_away (chord_channel 1) 0 other) in
-    (second.0, second.1,
+    let second = begins 1 first.0 (downs 0) first.1 (downs_idle 0) (downs_away (chord_channel 1) 0 other) in (
+      second.0,
+      second.1,
       ap (λ (ms : List Msg). after_all (after_all quiet (said 0 ms)) (heard n 1)) (said_first n (omega arith))
-      ∙ ap (λ (ms : List Msg). after_all (after_all quiet (said 0 (chord_start 0))) (said 240 ms)) (said_second n lt)
-      ∙ ap (λ (m : Music). after_all m (said 240 (chord_start 1))) first.2
-      ∙ second.2)
+          ∙ ap (λ (ms : List Msg). after_all (after_all quiet (said 0 (chord_start 0))) (said 240 ms)) (said_second n lt)
+          ∙ ap (λ (m : Music). after_all m (said 240 (chord_start 1))) first.2
+          ∙ second.2,
+    )
 
 -- from the start on, for two chords and k more
-from_start : (k : ℕ) → (after_all quiet (heard_all (suc (suc k)) (range_with_len 0 (suc (suc (suc (suc k))))))).notes ≡ flat_map chord_notes (range_with_len 0 (suc (suc k)))
+from_start : (k : ℕ) → (after_all quiet (heard_all (suc (suc k)) (range_with_len 0 (suc (suc (suc (suc k))))))).notes
+    ≡ flat_map chord_notes (range_with_len 0 (suc (suc k)))
 from_start k =
     let n = suc (suc k) in
     let two = two_begin n (omega arith) in

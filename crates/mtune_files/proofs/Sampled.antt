@@ -61,7 +61,8 @@ pub steps_more : (n i : ℕ) → flat_map (events_at n) (range_with_len 0 (i + 1
 steps_more n i = ap (λ (xs : List ℕ). flat_map (events_at n) xs) (range_more i) ∙ sym (flat_map_more (events_at n) [] (range_with_len 0 i) i)
 
 -- the last step is put, and the end of the track behind it
-pub all_steps : (n i : ℕ) → i ≡ n + 2 → flat_map (events_at n) (range_with_len 0 i) ++ record { tick = 240 * (n + 1); what = end_of_track } ∷ [] ≡ sample_events n
+pub all_steps : (n i : ℕ) → i ≡ n + 2
+    → flat_map (events_at n) (range_with_len 0 i) ++ record { tick = 240 * (n + 1); what = end_of_track } ∷ [] ≡ sample_events n
 unfolding sample_events
 all_steps n i is = rw is refl
 

@@ -185,9 +185,9 @@ fn track_of(alloc: Global, chords: u32) -> Result<TrackText, Memory>
     Ok(track)
 }
 
-/// A large valid file from a number: so many chords, 1 to `MOST_CHORDS`. One begins every 240 ticks and sounds
-/// for 480; each has three notes, and they take turns on the first eight channels. The bytes are those of a
-/// Standard MIDI File of format 0 with 480 ticks a quarter note.
+/// A large valid file from a number: so many chords, 1 to `MOST_CHORDS`. One begins every 240 ticks
+/// and sounds for 480; each has three notes, and they take turns on the first eight channels. The
+/// bytes are those of a Standard MIDI File of format 0 with 480 ticks a quarter note.
 pub fn sample(alloc: Global, chords: u32) -> Result<Vec<u8>, Memory>
     requires some { 1 ≤ chords }
     requires few { chords ≤ MOST_CHORDS }

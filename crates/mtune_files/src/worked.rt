@@ -1,4 +1,5 @@
-//! What is heard of a sample, and worked samples. The functions do nothing: their contracts are what is stated.
+//! What is heard of a sample, and worked samples. The functions do nothing: their contracts are what is
+//! stated.
 
 ghost use Rattle.std.specs.Prelude.{◌≡◌, ◌≤◌, ℕ, [], ◌∷◌};
 ghost use Rattle.mtune_files.specs.Sample.{sample_bytes};
@@ -6,12 +7,12 @@ ghost use Rattle.mtune_files.specs.SampleLaws.{ChordsAreHeard};
 
 use crate::chords::MOST_CHORDS;
 
-/// The notes of a sample are those of its chords, one after the other, each of which sounds for 480 ticks.
+/// The notes of a sample are those of its chords, one after the other, and each sounds for 480 ticks.
 pub fn sample_laws()
     ensures heard { (n : ℕ) → 1 ≤ n → n ≤ MOST_CHORDS → ChordsAreHeard n }
 {}
 
-/// The bytes of samples of one chord and of two; and what is heard of one of ten.
+/// The bytes of samples of one chord and of two.
 pub fn sample_examples()
     ensures one_chord { sample_bytes 1
         ≡ 0x4d ∷ 0x54 ∷ 0x68 ∷ 0x64 ∷ 0x00 ∷ 0x00 ∷ 0x00 ∷ 0x06 ∷ 0x00 ∷ 0x00 ∷ 0x00 ∷ 0x01
@@ -27,5 +28,4 @@ pub fn sample_examples()
         ∷ 0x91 ∷ 0x37 ∷ 0x40 ∷ 0x00 ∷ 0x3b ∷ 0x40 ∷ 0x00 ∷ 0x3e ∷ 0x40 ∷ 0x81 ∷ 0x70 ∷ 0x80
         ∷ 0x30 ∷ 0x40 ∷ 0x00 ∷ 0x34 ∷ 0x40 ∷ 0x00 ∷ 0x37 ∷ 0x40 ∷ 0x81 ∷ 0x70 ∷ 0x81 ∷ 0x37
         ∷ 0x40 ∷ 0x00 ∷ 0x3b ∷ 0x40 ∷ 0x00 ∷ 0x3e ∷ 0x40 ∷ 0x00 ∷ 0xff ∷ 0x2f ∷ 0x00 ∷ [] }
-    ensures heard { ChordsAreHeard 10 }
 {}

@@ -10,7 +10,3 @@ returns-clause-one_chord c = refl
 pub returns-clause-two_chords : goal.returns-clause-two_chords
 unfolding sample_events quantity_bytes events_bytes chunks_bytes file_bytes
 returns-clause-two_chords c = refl
-
-pub returns-clause-heard : goal.returns-clause-heard
-unfolding sample_events
-returns-clause-heard c = refl
