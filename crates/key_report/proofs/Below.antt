@@ -18,48 +18,48 @@ range_more a (suc n) b e =
     let more : suc n + 1 ≡ suc (n + 1) = omega arith in
     ap (range_with_len a) more ∙ ap (λ xs. a ∷ xs) (range_more (a + 1) n b (omega (arith, e)))
 
-one_more : (table : ℕ → Option Bounds) (used : ℕ → Bool) (k : ℕ)
-    → errors_below table used (k + 1) ≡ errors_below table used k ++ cons_option (used_error table used k) []
+one_more : (range : Option ℕ) (table : ℕ → Option Bounds) (used : ℕ → Bool) (k : ℕ)
+    → errors_below range table used (k + 1) ≡ errors_below range table used k ++ cons_option (used_error range table used k) []
 unfolding errors_below
-one_more table used k =
-    ap (filter_map (used_error table used)) (range_more 0 k k (omega arith))
-    ∙ filter_map-append (used_error table used) (range_with_len 0 k) (k ∷ [])
+one_more range table used k =
+    ap (filter_map (used_error range table used)) (range_more 0 k k (omega arith))
+    ∙ filter_map-append (used_error range table used) (range_with_len 0 k) (k ∷ [])
 
-pub none_below : (table : ℕ → Option Bounds) (used : ℕ → Bool) → errors_below table used 0 ≡ []
+pub none_below : (range : Option ℕ) (table : ℕ → Option Bounds) (used : ℕ → Bool) → errors_below range table used 0 ≡ []
 unfolding errors_below
-none_below table used = refl
+none_below range table used = refl
 
 -- what is put for the next key
-pub lines_more : (table : ℕ → Option Bounds) (used : ℕ → Bool) (k : ℕ) (e : Option KeyError) (before out new : List ℕ) → e ≡ used_error table used k
-    → out ≡ before ++ key_lines (errors_below table used k) → new ≡ out ++ key_lines (cons_option e [])
-    → new ≡ before ++ key_lines (errors_below table used (k + 1))
-lines_more table used k e before out new is was put =
+pub lines_more : (range : Option ℕ) (table : ℕ → Option Bounds) (used : ℕ → Bool) (k : ℕ) (e : Option KeyError) (before out new : List ℕ) → e ≡ used_error range table used k
+    → out ≡ before ++ key_lines (errors_below range table used k) → new ≡ out ++ key_lines (cons_option e [])
+    → new ≡ before ++ key_lines (errors_below range table used (k + 1))
+lines_more range table used k e before out new is was put =
     put ∙ ap (λ o. o ++ key_lines (cons_option e [])) was
-    ∙ append_assoc before (key_lines (errors_below table used k)) (key_lines (cons_option e []))
+    ∙ append_assoc before (key_lines (errors_below range table used k)) (key_lines (cons_option e []))
     ∙ ap (λ x. before ++ x) (
-    ap (λ x. key_lines (errors_below table used k) ++ key_lines (cons_option x [])) is
-    ∙ sym (flat_map-append key_line (errors_below table used k) (cons_option (used_error table used k) []))
-    ∙ ap key_lines (sym (one_more table used k)))
+    ap (λ x. key_lines (errors_below range table used k) ++ key_lines (cons_option x [])) is
+    ∙ sym (flat_map-append key_line (errors_below range table used k) (cons_option (used_error range table used k) []))
+    ∙ ap key_lines (sym (one_more range table used k)))
 
-pub whole_more : (table : ℕ → Option Bounds) (used : ℕ → Bool) (k : ℕ) (e : Option KeyError) (whole new : Option ErrorRange)
-    → e ≡ used_error table used k
-    → whole ≡ whole_error (errors_below table used k) → new ≡ fold with_error whole (cons_option e [])
-    → new ≡ whole_error (errors_below table used (k + 1))
-whole_more table used k e whole new is was joined =
+pub whole_more : (range : Option ℕ) (table : ℕ → Option Bounds) (used : ℕ → Bool) (k : ℕ) (e : Option KeyError) (whole new : Option ErrorRange)
+    → e ≡ used_error range table used k
+    → whole ≡ whole_error (errors_below range table used k) → new ≡ fold with_error whole (cons_option e [])
+    → new ≡ whole_error (errors_below range table used (k + 1))
+whole_more range table used k e whole new is was joined =
     joined ∙ ap (λ w. fold with_error w (cons_option e [])) was
-    ∙ ap (λ x. fold with_error (whole_error (errors_below table used k)) (cons_option x [])) is
-    ∙ sym (fold-append with_error None (errors_below table used k) (cons_option (used_error table used k) []))
-    ∙ ap whole_error (sym (one_more table used k))
+    ∙ ap (λ x. fold with_error (whole_error (errors_below range table used k)) (cons_option x [])) is
+    ∙ sym (fold-append with_error None (errors_below range table used k) (cons_option (used_error range table used k) []))
+    ∙ ap whole_error (sym (one_more range table used k))
 
 -- by the same keys in use
-pub same_from : (table : ℕ → Option Bounds) (f g : ℕ → Bool) (a n : ℕ) → ((k : ℕ) → k < a + n → f k ≡ g k)
-    → filter_map (used_error table f) (range_with_len a n) ≡ filter_map (used_error table g) (range_with_len a n)
-same_from table f g a zero same = refl
-same_from table f g a (suc n) same =
-    let rest = same_from table f g (a + 1) n (λ k low. same k (omega (arith, low))) in
+pub same_from : (range : Option ℕ) (table : ℕ → Option Bounds) (f g : ℕ → Bool) (a n : ℕ) → ((k : ℕ) → k < a + n → f k ≡ g k)
+    → filter_map (used_error range table f) (range_with_len a n) ≡ filter_map (used_error range table g) (range_with_len a n)
+same_from range table f g a zero same = refl
+same_from range table f g a (suc n) same =
+    let rest = same_from range table f g (a + 1) n (λ k low. same k (omega (arith, low))) in
     let here : f a ≡ g a = same a (omega arith) in
-    ap (λ (b : Bool). cons_option (used_error table (λ k. b) a) (filter_map (used_error table f) (range_with_len (a + 1) n))) here
-    ∙ ap (cons_option (used_error table g a)) rest
+    ap (λ (b : Bool). cons_option (used_error range table (λ k. b) a) (filter_map (used_error range table f) (range_with_len (a + 1) n))) here
+    ∙ ap (cons_option (used_error range table g a)) rest
 
 -- what holds of the error of each used key
 all_of_option : (P : KeyError → Type 0) (o : Option KeyError) (es : List KeyError) → ((e : KeyError) → o ≡ Some e → P e) → All P es

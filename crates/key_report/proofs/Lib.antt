@@ -1,3 +1,4 @@
+pub mod Quotient
 pub mod Outward
 pub mod Near
 pub mod Below

@@ -1,51 +1,57 @@
 -- Laws of what is said of the keys in use.
 use Rattle.std.specs.Prelude.{◌≡◌, ◌<◌, ◌+◌, ℕ, ℤ, pos, neg_ℤ, ◌≤ℤ◌, List, [], map, Bool, true, Option, Some, None, All, Contains}
 use Rattle.mt_base.specs.Pitch.{Pitch, AtLeast, AtMost, exactly, subtracted}
-use Rattle.retune_model.specs.Options.{ByDump, half_step}
 use Rattle.retune_model.specs.Table.{Scaling, Bounds, IsTable, AreFewTerms, pitch_at}
-use Rattle.retune_model.specs.Dump.{tuning_if}
 use Rattle.retune_model.specs.Faults.{Targets}
 use Rattle.key_report.specs.declared.keys.KeyError.{KeyError}
 use Rattle.key_report.specs.declared.range.ErrorRange.{ErrorRange}
+use Rattle.key_report.specs.declared.target.Target.{Target}
 use Rattle.key_report.specs.Errors.{thousandth_of_a_cent, rounded_up}
 use Rattle.key_report.specs.ErrorLaws.{grains_of}
-use Rattle.key_report.specs.Keys.{told_grains, key_errors, whole_error}
+use Rattle.key_report.specs.Keys.{error_if, key_errors, whole_error}
+use Rattle.key_report.specs.Targets.{IsDevice, target_if, told_grains, half_step_of}
 
--- how far a value may be from the pitch that is meant, in thousandths of a cent: half a step of the device and a thousandth of a
+-- how far a target may be from the pitch that is meant, in thousandths of a cent: half a step of the device and a thousandth of a
 -- cent, rounded outward
-abbrev pub bound_of_errors : ℤ
-bound_of_errors = rounded_up (pos (half_step ByDump 0 + thousandth_of_a_cent))
+abbrev pub bound_of_errors : Option ℕ → ℤ
+bound_of_errors range = rounded_up (pos (half_step_of range + thousandth_of_a_cent))
 
--- What is said of a key is so: what the value tells, less the scale pitch, is at least the least error and at most the greatest one,
+-- What is said of a key is so: what its target tells, less the scale pitch, is at least the least error and at most the greatest one,
 -- and both are within the bound.
-pub record HasError (s : Scaling) (onset : ℕ) (e : KeyError) : Type 0 where
+pub record HasError (s : Scaling) (range : Option ℕ) (onset : ℕ) (e : KeyError) : Type 0 where
   pub pitch : Pitch
   pub of_key : pitch_at s e.key onset ≡ Some pitch
-  pub least : AtLeast (subtracted (exactly (told_grains e.value)) pitch) (grains_of e.error.least)
-  pub most : AtMost (subtracted (exactly (told_grains e.value)) pitch) (grains_of e.error.greatest)
-  pub within_low : neg_ℤ bound_of_errors ≤ℤ e.error.least
-  pub within_high : e.error.greatest ≤ℤ bound_of_errors
+  pub least : AtLeast (subtracted (exactly (told_grains range e.target)) pitch) (grains_of e.error.least)
+  pub most : AtMost (subtracted (exactly (told_grains range e.target)) pitch) (grains_of e.error.greatest)
+  pub within_low : neg_ℤ (bound_of_errors range) ≤ℤ e.error.least
+  pub within_high : e.error.greatest ≤ℤ bound_of_errors range
 
--- by the table of some scales, for notes that begin at a tick
+-- by the table of some scales, for a note that begins at a tick; and for notes on the used keys
+abbrev pub NoteErrorHolds : Type 0
+NoteErrorHolds = (s : Scaling) (table : Targets) (range : Option ℕ) (onset key : ℕ) (e : KeyError) → IsTable s table → AreFewTerms s
+    → IsDevice range → key < 128 → error_if range key (table key onset) ≡ Some e → HasError s range onset e
+
 abbrev pub KeyErrorsHold : Type 0
-KeyErrorsHold = (s : Scaling) (table : Targets) (onset : ℕ) (used : ℕ → Bool) → IsTable s table → AreFewTerms s
-    → All (HasError s onset) (key_errors (λ key. table key onset) used)
+KeyErrorsHold = (s : Scaling) (table : Targets) (range : Option ℕ) (onset : ℕ) (used : ℕ → Bool) → IsTable s table → AreFewTerms s
+    → IsDevice range → All (HasError s range onset) (key_errors range (λ key. table key onset) used)
 
--- the value that a key is told
-abbrev pub IsTold : (ℕ → Option Bounds) → (ℕ → Bool) → KeyError → Type 0
-IsTold table used e = (e.key < 128) × (used e.key ≡ true) × (tuning_if (table e.key) ≡ Some e.value)
+-- the target that a key is told
+abbrev pub IsTold : Option ℕ → (ℕ → Option Bounds) → (ℕ → Bool) → KeyError → Type 0
+IsTold range table used e = (e.key < 128) × (used e.key ≡ true) × (target_if range (table e.key) ≡ Some e.target)
 
 -- Something is said of used keys that have a target, and of no other key.
 abbrev pub UsedKeysAreTold : Type 0
-UsedKeysAreTold = (table : ℕ → Option Bounds) (used : ℕ → Bool) → All (IsTold table used) (key_errors table used)
+UsedKeysAreTold = (range : Option ℕ) (table : ℕ → Option Bounds) (used : ℕ → Bool)
+    → All (IsTold range table used) (key_errors range table used)
 
 abbrev pub NoKeyIsLeftOut : Type 0
-NoKeyIsLeftOut = (table : ℕ → Option Bounds) (used : ℕ → Bool) (key value : ℕ) → key < 128 → used key ≡ true → tuning_if (table key) ≡ Some value
-    → Contains (map (λ e. e.key) (key_errors table used)) key
+NoKeyIsLeftOut = (range : Option ℕ) (table : ℕ → Option Bounds) (used : ℕ → Bool) (key : ℕ) (target : Target) → key < 128 → used key ≡ true
+    → target_if range (table key) ≡ Some target → Contains (map (λ e. e.key) (key_errors range table used)) key
 
 -- The same keys in use have the same errors.
 abbrev pub SameKeys : Type 0
-SameKeys = (table : ℕ → Option Bounds) (f g : ℕ → Bool) → ((k : ℕ) → k < 128 → f k ≡ g k) → key_errors table f ≡ key_errors table g
+SameKeys = (range : Option ℕ) (table : ℕ → Option Bounds) (f g : ℕ → Bool) → ((k : ℕ) → k < 128 → f k ≡ g k)
+    → key_errors range table f ≡ key_errors range table g
 
 -- The error of the whole is the least of all and the greatest of all.
 pub record IsWhole (es : List KeyError) (whole : ErrorRange) : Type 0 where

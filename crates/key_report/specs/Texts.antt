@@ -1,6 +1,9 @@
 -- The printed texts of errors (this project's own).
 use Rattle.std.specs.Prelude.{ℕ, suc, ℤ, pos, negsuc, ◌+◌, ◌/◌, ◌%◌, nat_lt, if◌then◌else◌, List, [], ◌∷◌, ◌++◌, flat_map, codes, decimal, Option, Some, None}
+use Rattle.std.specs.Fmt.{signed_decimal}
 use Rattle.key_report.specs.declared.keys.KeyError.{KeyError}
+use Rattle.key_report.specs.declared.target.Target.{Target}
+use Rattle.key_report.specs.declared.target.Target.TheVariants.{Value, Bend}
 use Rattle.key_report.specs.declared.range.ErrorRange.{ErrorRange}
 
 -- the last of a number's decimal digits
@@ -38,9 +41,14 @@ spaced_hex b = 32 ∷ hex_digit (b / 16) ∷ hex_digit (b % 16) ∷ []
 abbrev pub value_text : ℕ → List ℕ
 value_text value = spaced_hex (value / 16384) ++ spaced_hex ((value / 128) % 128) ++ spaced_hex (value % 128)
 
+-- a target: its three bytes, or its key and the steps of its bend
+abbrev pub target_text : Target → List ℕ
+target_text (Value value) = value_text value
+target_text (Bend key steps) = codes " " ++ decimal key ++ codes " bend " ++ signed_decimal steps
+
 -- a key in use, what a device is told of it, and its error
 abbrev pub key_line : KeyError → List ℕ
-key_line e = codes "key " ++ decimal e.key ++ codes " to" ++ value_text e.value ++ codes " " ++ error_text e.error
+key_line e = codes "key " ++ decimal e.key ++ codes " to" ++ target_text e.target ++ codes " " ++ error_text e.error
 
 abbrev pub key_lines : List KeyError → List ℕ
 key_lines es = flat_map key_line es

@@ -3,7 +3,7 @@
 ghost use Rattle.std.specs.Prelude.{◌≡◌, pos, negsuc, codes};
 ghost use Rattle.key_report.specs.Errors.{least_error, greatest_error};
 ghost use Rattle.key_report.specs.ErrorLaws.{RoundsDown, RoundsUp, ErrorsHold, ErrorsAreNear};
-ghost use Rattle.key_report.specs.KeyLaws.{KeyErrorsHold, UsedKeysAreTold, NoKeyIsLeftOut, SameKeys, WholeIsLeastToGreatest};
+ghost use Rattle.key_report.specs.KeyLaws.{KeyErrorsHold, NoteErrorHolds, UsedKeysAreTold, NoKeyIsLeftOut, SameKeys, WholeIsLeastToGreatest};
 ghost use Rattle.key_report.specs.Texts.{thousandths, error_text};
 
 use mt_base::laws::{differences, exact, wider};
@@ -30,6 +30,7 @@ pub fn error_laws()
 /// error of the whole is the least of all and the greatest of all.
 pub fn key_laws()
     ensures hold { KeyErrorsHold }
+    ensures note { NoteErrorHolds }
     ensures told { UsedKeysAreTold }
     ensures all { NoKeyIsLeftOut }
     ensures same { SameKeys }

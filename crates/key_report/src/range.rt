@@ -33,7 +33,7 @@ impl ErrorRange {
     /// Of a target in grains, where a bracket holds the pitch that is meant; its ends are at most a
     /// thousandth of a cent apart, and less than 2^50 grains from the target.
     pub fn new(target: i128, bracket: Bracket) -> ErrorRange
-        requires target_low { pos 0 ≤ℤ target }
+        requires target_low { neg_ℤ (pos (2 ^ 60)) ≤ℤ target }
         requires target_high { target ≤ℤ pos (2 ^ 60) }
         requires near_low { (target -ℤ pos (2 ^ 50)) ≤ℤ bracket.lo.0 }
         requires near_high { bracket.lo.0 ≤ℤ (target +ℤ pos (2 ^ 50)) }

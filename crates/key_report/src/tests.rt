@@ -53,52 +53,104 @@ const EQUAL: &[u8] =
 
 const JUST: &[u8] = b"just\n12\n16/15\n9/8\n6/5\n5/4\n4/3\n45/32\n3/2\n8/5\n5/3\n9/5\n15/8\n2/1\n";
 
-/// Whether this is said of a set of keys, with the error of the whole.
-fn is_said(alloc: Global, scale: &[u8], mapping: &Mapping, keys: u128, wanted: &[u8]) -> bool {
-    match said(alloc, scale, mapping, keys) {
+const LOW: &[u8] =
+    b"low\n12\n100.0\n200.0\n270.0\n400.0\n500.0\n600.0\n700.0\n800.0\n900.0\n1000.0\n1100.0\n1200.0\n";
+
+const TWO: &[u8] = b"two\n2\n50.0\n1200.0\n";
+
+const OCTAVES: &[u8] = b"octaves\n1\n2/1\n";
+
+/// What is said of a set of keys, with the error of the whole. None where the scale isn't read, or the
+/// sensitivity isn't one of a bend.
+fn said(
+    alloc: Global,
+    scale: &[u8],
+    mapping: &Mapping,
+    range: Option<u8>,
+    keys: u128,
+) -> Option<Vec<u8>> {
+    if scale.len() > 262_144 {
+        return None;
+    }
+    if let Some(range) = range {
+        if range < 1 || range > 96 {
+            return None;
+        }
+    }
+    let scale = read_scl(alloc, scale).ok()?;
+    let table = KeyTable::new(&scale, mapping).ok()?;
+    let mut text = Vec::new(alloc);
+    let whole = push_keys(&table, range, keys, &mut text).ok()?;
+    push_whole(&mut text, whole).ok()?;
+    Some(text)
+}
+
+/// Whether this is said.
+fn is_said(
+    alloc: Global,
+    scale: &[u8],
+    mapping: &Mapping,
+    range: Option<u8>,
+    keys: u128,
+    wanted: &[u8],
+) -> bool {
+    match said(alloc, scale, mapping, range, keys) {
         Some(text) => text.as_slice() == wanted,
         None => false,
     }
 }
 
-/// What is said of a set of keys, with the error of the whole. None where the scale isn't read.
-fn said(alloc: Global, scale: &[u8], mapping: &Mapping, keys: u128) -> Option<Vec<u8>> {
-    if scale.len() > 262_144 {
-        return None;
+#[test]
+fn values_are_told(rt: HostRuntime) -> Result<(), Fail> {
+    let a440 = Mapping::a440(rt.alloc());
+    let standard = Mapping::standard(rt.alloc());
+    // a just third is at 6386.313714 cents, a just fifth at 6701.955; 6,950 cents are as near to key 69 as to
+    // key 70; where an octave is a key, the device has no pitch near key 63
+    let exact: &[u8] = b"key 69 to 45 00 00 error 0.000 to 0.000\nerror 0.000 to 0.000\n";
+    let third: &[u8] = b"key 64 to 3F 6E 3E error 0.002 to 0.003\nerror 0.002 to 0.003\n";
+    let both: &[u8] =
+        b"key 64 to 3F 6E 3E error 0.002 to 0.003\nkey 67 to 43 02 40 error -0.002 to -0.001\nerror -0.002 to 0.003\n";
+    let tie: &[u8] = b"key 70 to 45 40 00 error 0.000 to 0.000\nerror 0.000 to 0.000\n";
+    let none: &[u8] = b"error none\n";
+    let rows: [(&[u8], &Mapping, u128, &[u8]); 6] = [
+        (EQUAL, &a440, 1 << 69, exact),
+        (JUST, &standard, 1 << 64, third),
+        (JUST, &standard, 1 << 67 | 1 << 64, both),
+        (TWO, &a440, 1 << 70, tie),
+        (OCTAVES, &a440, 1 << 63, none),
+        (EQUAL, &a440, 0, none),
+    ];
+    for (scale, mapping, keys, wanted) in rows {
+        assert!(rt; is_said(rt.alloc(), scale, mapping, None, keys, wanted));
     }
-    let scale = read_scl(alloc, scale).ok()?;
-    let table = KeyTable::new(&scale, mapping).ok()?;
-    let mut text = Vec::new(alloc);
-    let whole = push_keys(&table, keys, &mut text).ok()?;
-    push_whole(&mut text, whole).ok()?;
-    Some(text)
+    Ok(())
 }
 
 #[test]
-fn keys_are_told(rt: HostRuntime) -> Result<(), Fail> {
+fn bends_are_told(rt: HostRuntime) -> Result<(), Fail> {
     let a440 = Mapping::a440(rt.alloc());
     let standard = Mapping::standard(rt.alloc());
-    let exact = b"key 69 to 45 00 00 error 0.000 to 0.000\nerror 0.000 to 0.000\n";
-    assert!(rt; is_said(rt.alloc(), EQUAL, &a440, 1 << 69, exact));
-    // a just third is at 6386.313714 cents, a just fifth at 6701.955
-    let third = b"key 64 to 3F 6E 3E error 0.002 to 0.003\nerror 0.002 to 0.003\n";
-    assert!(rt; is_said(rt.alloc(), JUST, &standard, 1 << 64, third));
-    let both =
-        b"key 64 to 3F 6E 3E error 0.002 to 0.003\nkey 67 to 43 02 40 error -0.002 to -0.001\nerror -0.002 to 0.003\n";
-    assert!(rt; is_said(rt.alloc(), JUST, &standard, 1 << 67 | 1 << 64, both));
-    // 6,950 cents are as near to key 69 as to key 70
-    let tie = b"key 70 to 45 40 00 error 0.000 to 0.000\nerror 0.000 to 0.000\n";
-    assert!(rt; is_said(rt.alloc(), b"two\n2\n50.0\n1200.0\n", &a440, 1 << 70, tie));
-    // an octave a key: the device has no pitch near key 63
-    assert!(rt;
-        is_said(
-            rt.alloc(),
-            b"octaves\n1\n2/1\n",
-            &a440,
-            1 << 63,
-            b"error none\n"
-        )
-    );
-    assert!(rt; is_said(rt.alloc(), EQUAL, &a440, 0, b"error none\n"));
+    // a step is 300/2048 cents at 12 semitones, so 93 steps are 13.623047 cents, and 1200/2048 cents at 48, so
+    // 23 are 13.476563; a tie goes to the higher key; key 0 may be bent to below its own pitch
+    let exact: &[u8] = b"key 69 to 69 bend 0 error 0.000 to 0.000\nerror 0.000 to 0.000\n";
+    let third: &[u8] = b"key 64 to 64 bend -93 error 0.063 to 0.064\nerror 0.063 to 0.064\n";
+    let wide: &[u8] = b"key 64 to 64 bend -23 error 0.209 to 0.210\nerror 0.209 to 0.210\n";
+    let both: &[u8] =
+        b"key 64 to 64 bend -93 error 0.063 to 0.064\nkey 67 to 67 bend 13 error -0.051 to -0.050\nerror -0.051 to 0.064\n";
+    let tie: &[u8] = b"key 70 to 70 bend -341 error 0.048 to 0.049\nerror 0.048 to 0.049\n";
+    let low: &[u8] = b"key 0 to 0 bend -205 error -0.030 to -0.029\nerror -0.030 to -0.029\n";
+    let none: &[u8] = b"error none\n";
+    let rows: [(&[u8], &Mapping, u8, u128, &[u8]); 7] = [
+        (EQUAL, &a440, 12, 1 << 69, exact),
+        (JUST, &standard, 12, 1 << 64, third),
+        (JUST, &standard, 48, 1 << 64, wide),
+        (JUST, &standard, 12, 1 << 67 | 1 << 64, both),
+        (TWO, &a440, 12, 1 << 70, tie),
+        (LOW, &a440, 12, 1, low),
+        (OCTAVES, &a440, 12, 1 << 63, none),
+    ];
+    for (scale, mapping, range, keys, wanted) in rows {
+        assert!(rt; is_said(rt.alloc(), scale, mapping, Some(range), keys, wanted));
+    }
     Ok(())
 }

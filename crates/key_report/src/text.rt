@@ -1,8 +1,11 @@
-ghost use Rattle.std.specs.Prelude.{◌≡◌, ◌≤◌, ◌<◌, ◌^◌, ◌++◌, ◌∷◌, [], OnOk};
-ghost use Rattle.key_report.specs.Texts.{digit, unsigned_text, thousandths, range_text, error_text, error_line, hex_digit, spaced_hex, value_text, key_line};
+ghost use Rattle.std.specs.Prelude.{◌≡◌, ◌≤◌, ◌<◌, ◌^◌, ◌++◌, ◌∷◌, [], OnOk, codes, decimal};
+ghost use Rattle.std.specs.Fmt.{signed_decimal};
+ghost use Rattle.key_report.specs.Targets.{FitsThreeBytes};
+ghost use Rattle.key_report.specs.Texts.{digit, unsigned_text, thousandths, range_text, error_text, error_line, hex_digit, spaced_hex, value_text, target_text, key_line};
 
 use crate::keys::KeyError;
 use crate::range::ErrorRange;
+use crate::target::Target;
 use itoa::Buffer;
 use mt_base::Memory;
 
@@ -99,15 +102,38 @@ fn push_value(text: &mut Vec<u8>, value: u32) -> Result<(), Memory>
     push_hex(text, (value % 128) as u8)
 }
 
-/// Appends the line of a key, whose value a device can be told.
+/// Appends a blank and a key, and the steps of a bend from there.
+fn push_bend(text: &mut Vec<u8>, key: u8, steps: i32) -> Result<(), Memory>
+    ensures { OnOk result (text.new.items
+        ≡ text.old.items ++ codes " " ++ decimal key ++ codes " bend " ++ signed_decimal steps) }
+{
+    text.push(b' ')?;
+    text.extend_from_slice(Buffer::new().format(key).as_bytes())?;
+    text.extend_from_slice(b" bend ")?;
+    text.extend_from_slice(Buffer::new().format(steps).as_bytes())?;
+    Ok(())
+}
+
+/// Appends a target: a blank and its three bytes, or its key and the steps of its bend.
+fn push_target(text: &mut Vec<u8>, target: Target) -> Result<(), Memory>
+    requires { FitsThreeBytes target }
+    ensures { OnOk result (text.new.items ≡ text.old.items ++ target_text target) }
+{
+    match target {
+        Target::Value(value) => push_value(text, value),
+        Target::Bend { key, steps } => push_bend(text, key, steps),
+    }
+}
+
+/// Appends the line of a key, whose target a device can be told.
 pub fn push_key(text: &mut Vec<u8>, told: &KeyError) -> Result<(), Memory>
-    requires { told.now.value < 2 ^ 21 }
+    requires { FitsThreeBytes told.now.target }
     ensures { OnOk result (text.new.items ≡ text.old.items ++ key_line told.now) }
 {
     text.extend_from_slice(b"key ")?;
     text.extend_from_slice(Buffer::new().format(told.key).as_bytes())?;
     text.extend_from_slice(b" to")?;
-    push_value(text, told.value)?;
+    push_target(text, told.target)?;
     text.push(b' ')?;
     push_error(text, told.error)
 }

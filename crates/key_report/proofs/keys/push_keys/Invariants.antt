@@ -6,6 +6,6 @@ use Rattle.key_report.proofs.keys.push_keys.Given as goal
 
 abbrev pub invariant-loop-key : goal.invariant-loop-key
 invariant-loop-key l = record {
-  text : l.out.items ≡ l.fn.out.items ++ key_lines (errors_below (table_of l.table) (is_used l.keys) l.key);
-  whole : l.whole ≡ whole_error (errors_below (table_of l.table) (is_used l.keys) l.key);
+  text : l.out.items ≡ l.fn.out.items ++ key_lines (errors_below l.range (table_of l.table) (is_used l.keys) l.key);
+  whole : l.whole ≡ whole_error (errors_below l.range (table_of l.table) (is_used l.keys) l.key);
 }
