@@ -1,5 +1,5 @@
 -- What an input gives, and what is refused of it.
-use Rattle.std.proofs.Common.{Fits, w8, suc, ◌∷◌, [], ◌≡◌, ◌<◌, ◌≤◌, ℕ, List, length, get_or, refl, sym, subst, arith}
+use Rattle.std.proofs.Common.{Fits, w8, suc, ◌∷◌, [], ◌≡◌, ◌<◌, ◌≤◌, ℕ, List, Bool, true, false, cond, Option, Some, None, length, get_or, refl, sym, subst, arith}
 use Rattle.std.specs.Prelude.{Result, Ok, Err, IfOk, OnOk}
 use Rattle.std.specs.List.{AllByRecursion}
 use Rattle.mt_base.specs.Midi.{MidiEvent}
@@ -7,7 +7,7 @@ use Rattle.midi_model.specs.FileText.{MidiFile}
 use Rattle.midi_model.specs.Merged.{merged, IsPlayable}
 use Rattle.midi_model.specs.Spelling.{Spells}
 use Rattle.midi_model.specs.Writing.{file_bytes}
-use Rattle.retune_model.specs.Options.{Options}
+use Rattle.retune_model.specs.Options.{Options, bends_notes}
 use Rattle.retune_model.specs.Faults.{Targets}
 use Rattle.retune_model.specs.FaultLaws.{NoFirstNoFault}
 use Rattle.retune_model.specs.SourceFaults.{IsFaultless, first_fault}
@@ -15,6 +15,7 @@ use Rattle.lifetimes.specs.declared.fault.StepFault.{StepFault}
 use Rattle.lifetimes.specs.declared.fault.StepFault.TheVariants as step
 use Rattle.lifetimes.specs.Told.{told_fault, IsCaused}
 use Rattle.key_report.specs.KeyLaws.{KeyErrorsHold}
+use Rattle.key_report.specs.Targets.{IsDevice}
 use Rattle.mtune_core.specs.declared.outcome.Fault.{Fault}
 use Rattle.mtune_core.specs.declared.outcome.Fault.TheVariants.{Source}
 use Rattle.mtune_core.specs.declared.retuning.Made.{Made}
@@ -24,7 +25,7 @@ use Rattle.mtune_core.specs.Limits.{input_limit}
 use Rattle.mtune_core.specs.Made.{MadeOf}
 use Rattle.mtune_core.specs.Output.{routed_file}
 use Rattle.mtune_core.specs.OutputLaws.{OutputIsSpelt, OutputPlaysTheSame}
-use Rattle.mtune_core.specs.Report.{report_of, uses_key}
+use Rattle.mtune_core.specs.Report.{bend_range, report_of, uses_key}
 use Rattle.mtune_core.specs.Retuned.{EventCause, InputCause}
 use Rattle.mtune_core.proofs.Writable.{division_below}
 
@@ -50,6 +51,14 @@ pub input_refused : (o : Options) (table : Targets) (input : List ℕ) (source :
 input_refused o table input source (Source f) spelled h = (source, spelled, h)
 input_refused o table input source fault spelled h = absurd h
 
+-- what the options ask of a device
+pub of_device : (o : Options) → 1 ≤ o.range → o.range ≤ 96 → IsDevice (bend_range o)
+of_device o some few = pick (bends_notes o.route)
+  where
+    pick : (b : Bool) → IsDevice (cond b (Some o.range) None)
+    pick true = (some, few)
+    pick false = tt
+
 -- What it rests on, as contracts have it.
 pub record MadeLaws : Type 0 where
   pub spelt : OutputIsSpelt
@@ -70,7 +79,7 @@ made_is_retuned laws (Ok made) o table input source plain one spelled short byte
   same = laws.same scaling o table source is_table.is_table few one playable plain faultless;
   exact_file = refl;
   exact_bytes = output;
-  errors = laws.errors scaling table 0 (λ key. uses_key o key (merged source)) is_table.is_table few;
+  errors = laws.errors scaling table (bend_range o) 0 (λ key. uses_key o key (merged source)) is_table.is_table few (of_device o plain.range_some plain.range_high);
   is_report = report;
 }
 made_is_retuned laws (Err fault) o table input source plain one spelled short bytes playable faultless output report = tt

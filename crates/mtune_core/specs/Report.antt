@@ -1,8 +1,8 @@
--- The report on a source on dump and live.
-use Rattle.std.specs.Prelude.{ℕ, zero, suc, ◌+◌, List, [], ◌∷◌, ◌++◌, Bool, false, ◌&&◌, ◌||◌, nat_eq, length}
+-- The report on a source.
+use Rattle.std.specs.Prelude.{ℕ, zero, suc, ◌+◌, List, [], ◌∷◌, ◌++◌, Bool, false, ◌&&◌, ◌||◌, nat_eq, length, Option, Some, None, if◌then◌else◌}
 use Rattle.mt_base.specs.declared.event.Msg.TheVariants.{NoteOn}
 use Rattle.mt_base.specs.Midi.{MidiWhat, Says, MidiEvent}
-use Rattle.retune_model.specs.Options.{Options}
+use Rattle.retune_model.specs.Options.{Options, bends_notes}
 use Rattle.retune_model.specs.Ports.{events_on}
 use Rattle.retune_model.specs.Faults.{Targets, is_part}
 use Rattle.retune_model.specs.Dump.{parts_with_notes}
@@ -22,9 +22,13 @@ abbrev pub uses_key : Options → ℕ → List MidiEvent → Bool
 uses_key o key [] = false
 uses_key o key (e ∷ es) = begins_on o key e.what || uses_key o key es
 
+-- what a device takes: bends at a sensitivity of so many semitones, or else tuning messages
+abbrev pub bend_range : Options → Option ℕ
+bend_range o = if bends_notes o.route then Some o.range else None
+
 -- the errors of the keys that are used
 abbrev pub errors_of : Options → Targets → List MidiEvent → List KeyError
-errors_of o table es = key_errors (λ key. table key 0) (λ key. uses_key o key es)
+errors_of o table es = key_errors (bend_range o) (λ key. table key 0) (λ key. uses_key o key es)
 
 -- how many channels have retuned notes, on so many ports from one on
 unfoldable pub channels_from : Options → List MidiEvent → ℕ → ℕ → ℕ

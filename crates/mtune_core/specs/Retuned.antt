@@ -16,7 +16,7 @@ use Rattle.key_report.specs.KeyLaws.{HasError}
 use Rattle.mtune_core.specs.declared.outcome.Fault.{Fault}
 use Rattle.mtune_core.specs.declared.outcome.Fault.TheVariants.{Smf, Source, Memory}
 use Rattle.mtune_core.specs.Output.{routed_file}
-use Rattle.mtune_core.specs.Report.{errors_of, report_of}
+use Rattle.mtune_core.specs.Report.{bend_range, errors_of, report_of}
 
 -- the first fault of the events
 abbrev pub EventCause : Options → Targets → List MidiEvent → Fault → Type 0
@@ -41,5 +41,5 @@ pub record IsRetuned (scaling : Scaling) (o : Options) (table : Targets) (input 
   pub same : PlaysTheSame scaling o table source out
   pub exact_file : out ≡ routed_file o table source
   pub exact_bytes : output ≡ file_bytes out
-  pub errors : All (HasError scaling 0) (errors_of o table (merged source))
+  pub errors : All (HasError scaling (bend_range o) 0) (errors_of o table (merged source))
   pub is_report : report ≡ report_of o table (merged source)

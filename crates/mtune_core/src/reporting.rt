@@ -7,7 +7,7 @@ ghost use Rattle.receiver.specs.Notes.{has};
 ghost use Rattle.lifetimes.specs.Noted.{IsNoted};
 ghost use Rattle.lifetimes.specs.Views.{route_of, options_of};
 ghost use Rattle.mtune_core.specs.Lines.{route_line, count_lines};
-ghost use Rattle.mtune_core.specs.Report.{channels_of, report_of};
+ghost use Rattle.mtune_core.specs.Report.{bend_range, channels_of, report_of};
 ghost use Rattle.mtune_core.specs.Survey.{IsFound};
 
 use crate::lines::one;
@@ -73,6 +73,16 @@ fn push_counts(text: &mut Vec<u8>, notes: u32, channels: u32) -> Result<(), Memo
     Ok(())
 }
 
+/// The sensitivity of the bends that give notes their pitches, in semitones. None where tuning messages do.
+fn bend_range(options: Options) -> Option<u8>
+    ensures { result ≡ bend_range (options_of options) }
+{
+    match options.route {
+        Route::Dump | Route::Live => None,
+        Route::Bend | Route::Mpe => Some(options.range),
+    }
+}
+
 /// The report on a source, by what was found of it.
 pub fn report(
     alloc: Global,
@@ -80,13 +90,15 @@ pub fn report(
     table: &KeyTable,
     found: &Found,
 ) -> Result<Vec<u8>, Memory>
+    requires range_some { 1 ≤ options.range }
+    requires range_high { options.range ≤ 96 }
     ensures { (es : List MidiEvent) → IsFound (options_of options) es found.now
         → IfOk result (λ text. text.items ≡ report_of (options_of options) (by_onset table.now) es) }
 {
     key_laws();
     let mut text = Vec::new(alloc);
     push_route(&mut text, options.route)?;
-    let whole = push_keys(table, found.keys, &mut text)?;
+    let whole = push_keys(table, bend_range(options), found.keys, &mut text)?;
     push_counts(&mut text, found.notes, channels(&found.noted))?;
     push_whole(&mut text, whole)?;
     Ok(text)
