@@ -6,11 +6,7 @@ use event_stream::TrackSet;
 use mt_base::{Event, Memory, Msg, What};
 
 /// Puts messages at an event's tick into its track. On `Memory` a front of them was put.
-pub fn put_messages(
-    out: &mut TrackSet,
-    at: &Event<'_>,
-    messages: &[Msg],
-) -> Result<(), Memory>
+pub fn put_messages(out: &mut TrackSet, at: &Event<'_>, messages: &[Msg]) -> Result<(), Memory>
     requires { AllMayPut out.old (said_at (view at.now) messages.now) }
     ensures put { OnOk result (out.new ≡ put_all out.old (said_at (view at.now) messages.now)) }
     ensures front { OnErr result
