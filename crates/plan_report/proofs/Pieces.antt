@@ -28,8 +28,8 @@ next_front f xs i d x old now new low here is front =
     let done = flat_map f (take i xs) in
     let rest = flat_map f (drop (suc i) xs) in
     let split : flat_map f xs ≡ done ++ (f x ++ rest) =
-        ap (flat_map f) (sym (take-append-drop i xs)) ∙ flat_map-append f (take i xs) (drop i xs)
-        ∙ ap (λ r. done ++ flat_map f r) (drop-cons xs i d low) ∙ ap (λ y. done ++ (f y ++ rest)) (sym here) in
+    ap (flat_map f) (sym (take-append-drop i xs)) ∙ flat_map-append f (take i xs) (drop i xs)
+    ∙ ap (λ r. done ++ flat_map f r) (drop-cons xs i d low) ∙ ap (λ y. done ++ (f y ++ rest)) (sym here) in
     subst (λ t. IsFront old t new) (sym split) (in_second old done (f x ++ rest) now new is (in_first now (f x) rest new front))
 
 -- the same of ports that are named

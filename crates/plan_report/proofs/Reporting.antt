@@ -68,7 +68,7 @@ needs o allowed table es plan p z =
 zone_at : (o : Options) (allowed : ℕ → Bool) (table : Targets) (es : List MidiEvent) (plan : Plan) → planned.IsPlan o allowed table es plan
     → (z i : ℕ) → zone_told plan z i
     ≡ zone_lines_if (option_map (planned.zone_told o table es z) (nth i (planned.zones_told o.route o table es z)))
-      (unwrap_or (option_map (planned.zone_pairs_told o table es z) (nth i (planned.zones_told o.route o table es z))) [])
+    (unwrap_or (option_map (planned.zone_pairs_told o table es z) (nth i (planned.zones_told o.route o table es z))) [])
 zone_at o allowed table es plan p z i =
     ap (λ x. zone_lines_if x (map pair_of (zone_pairs_in plan z i))) (p.zones z i)
     ∙ ap (zone_lines_if (option_map (planned.zone_told o table es z) (nth i (planned.zones_told o.route o table es z)))) (p.zone_pairs z i)
@@ -78,10 +78,10 @@ zones : (o : Options) (allowed : ℕ → Bool) (table : Targets) (es : List Midi
 zones o allowed table es plan p z =
     ap (λ t. t ++ zone_told plan z 1) (zone_at o allowed table es plan p z 0)
     ∙ ap (λ t. zone_lines_if (option_map (planned.zone_told o table es z) (nth 0 (planned.zones_told o.route o table es z)))
-      (unwrap_or (option_map (planned.zone_pairs_told o table es z) (nth 0 (planned.zones_told o.route o table es z))) []) ++ t)
-      (zone_at o allowed table es plan p z 1)
+    (unwrap_or (option_map (planned.zone_pairs_told o table es z) (nth 0 (planned.zones_told o.route o table es z))) []) ++ t)
+    (zone_at o allowed table es plan p z 1)
     ∙ two_pieces (planned.zone_told o table es z) (planned.zone_pairs_told o table es z) (planned.zones_told o.route o table es z)
-      (few_told o.route o table es z)
+    (few_told o.route o table es z)
 
 channels : (o : Options) (allowed : ℕ → Bool) (table : Targets) (es : List MidiEvent) (plan : Plan) → planned.IsPlan o allowed table es plan
     → (z : ℕ) → channels_of_port plan z ≡ port_channels o table es z
@@ -89,9 +89,9 @@ channels o allowed table es plan p z =
     ap (λ n. n + members_if (zone_in plan z 0) + members_if (zone_in plan z 1)) (p.need z)
     ∙ ap (λ x. planned.need_told o table es z + members_if x + members_if (zone_in plan z 1)) (p.zones z 0)
     ∙ ap (λ x. planned.need_told o table es z + members_if (option_map (planned.zone_told o table es z) (nth 0 (planned.zones_told o.route o table es z)))
-      + members_if x) (p.zones z 1)
+    + members_if x) (p.zones z 1)
     ∙ two_counts (planned.zone_told o table es z) (planned.zones_told o.route o table es z) (planned.need_told o table es z) (λ x. refl)
-      (few_told o.route o table es z)
+    (few_told o.route o table es z)
 
 -- ---- on all ports
 

@@ -12,7 +12,11 @@ fn pair_line(pair: &Pair) -> Line
     ensures { result.bytes ≡ pair_line (pair_of pair.now) }
 {
     let mut line = Line::new();
-    push_number(&mut line, "pair ", u32::from(pair.part.channel.number()) + 1);
+    push_number(
+        &mut line,
+        "pair ",
+        u32::from(pair.part.channel.number()) + 1,
+    );
     line.push_str(" ");
     line.push_str(Buffer::new().format(pair.steps));
     line.push_str("\n");

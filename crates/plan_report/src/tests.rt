@@ -59,16 +59,19 @@ fn what_of<'a>(said: &'a Said) -> What<'a> {
     }
 }
 
-/// Whether the data of an event are in range; only notes and meta events are taken.
+/// Whether the data of an event are in range. The end of a track isn't taken here.
 fn is_valid(what: &What<'_>) -> bool
     ensures { IsTrue result → IsValidWhat (view_what what.now) }
 {
     match *what {
-        What::Message(Msg::NoteOn { key, velocity, .. } | Msg::NoteOff { key, velocity, .. }) => {
-            key < 128 && velocity < 128
-        }
+        What::Message(message) => match message {
+            Msg::NoteOn { key, velocity, .. } | Msg::NoteOff { key, velocity, .. } => {
+                key < 128 && velocity < 128
+            }
+            _ => false,
+        },
         What::Meta { kind, bytes } => kind != 0x2f && bytes.len() < 0x1000_0000,
-        _ => false,
+        What::Sysex { .. } => false,
     }
 }
 
@@ -164,7 +167,7 @@ fn planned(alloc: Global, layout: Layout, turns: &[Turn]) -> Result<Plan, PlanFa
 }
 
 /// The lines of a plan, or of the fault for which there is none. None where memory is wanting.
-fn said(alloc: Global, layout: Layout, turns: &[Turn]) -> Option<Vec<u8>> {
+fn lines_of(alloc: Global, layout: Layout, turns: &[Turn]) -> Option<Vec<u8>> {
     let mut text = Vec::new(alloc);
     match planned(alloc, layout, turns) {
         Ok(plan) => {
@@ -187,7 +190,7 @@ fn said(alloc: Global, layout: Layout, turns: &[Turn]) -> Option<Vec<u8>> {
 
 /// Whether these are the lines.
 fn is_said(alloc: Global, layout: Layout, turns: &[Turn], wanted: &[u8]) -> bool {
-    match said(alloc, layout, turns) {
+    match lines_of(alloc, layout, turns) {
         Some(text) => text.as_slice() == wanted,
         None => false,
     }
@@ -245,7 +248,8 @@ const OTHER_PORT: &[Turn] = &[
 
 #[test]
 fn ports_are_named_where_one_is_another_than_port_0(rt: HostRuntime) -> Result<(), Fail> {
-    let lines = b"channels 2\nport 0\nneed 1 tick 0 position 2\npair 1 0\nport 1\nneed 1 tick 0 position 4\npair 1 0\n";
+    let lines =
+        b"channels 2\nport 0\nneed 1 tick 0 position 2\npair 1 0\nport 1\nneed 1 tick 0 position 4\npair 1 0\n";
     assert!(rt; is_said(rt.alloc(), ALL, TWO_PORTS, lines));
     let lines = b"channels 3\nport 1\nneed 3 tick 0 position 4\npair 1 0\npair 3 -93\npair 5 0\n";
     assert!(rt; is_said(rt.alloc(), ALL, OTHER_PORT, lines));
@@ -262,9 +266,7 @@ fn two_parts(alloc: Global, first: u8, second: u8, drums: bool) -> Option<Vec<Tu
     let mut turns: Vec<Turn> = Vec::new(alloc);
     for (part, count) in [(0u8, first), (1u8, second)] {
         for key in 0..count {
-            turns
-                .push((0, 0, On(part, 60u8.saturating_add(key))))
-                .ok()?;
+            turns.push((0, 0, On(part, 60u8.saturating_add(key)))).ok()?;
         }
     }
     if drums {
@@ -283,9 +285,11 @@ fn are_zones(alloc: Global, first: u8, second: u8, drums: bool, wanted: &[u8]) -
 
 #[test]
 fn the_lower_zone_comes_first(rt: HostRuntime) -> Result<(), Fail> {
-    let lines = b"channels 14\nzone lower part 1 need 9 tick 0 position 9\npair 1 -23\npair 1 -17\npair 1 -3\npair 1 0\npair 1 3\npair 1 7\npair 1 20\npair 1 23\npair 1 27\nzone upper part 2 need 5 tick 0 position 14\npair 2 -23\npair 2 0\npair 2 7\npair 2 20\npair 2 27\n";
+    let lines =
+        b"channels 14\nzone lower part 1 need 9 tick 0 position 9\npair 1 -23\npair 1 -17\npair 1 -3\npair 1 0\npair 1 3\npair 1 7\npair 1 20\npair 1 23\npair 1 27\nzone upper part 2 need 5 tick 0 position 14\npair 2 -23\npair 2 0\npair 2 7\npair 2 20\npair 2 27\n";
     assert!(rt; are_zones(rt.alloc(), 9, 5, false, lines));
-    let lines = b"channels 3\nzone lower part 2 need 2 tick 0 position 3\npair 2 0\npair 2 20\nzone upper part 1 need 1 tick 0 position 1\npair 1 0\n";
+    let lines =
+        b"channels 3\nzone lower part 2 need 2 tick 0 position 3\npair 2 0\npair 2 20\nzone upper part 1 need 1 tick 0 position 1\npair 1 0\n";
     assert!(rt; are_zones(rt.alloc(), 1, 2, false, lines));
     let refused = b"mtune: needs 9 channels of 8 at tick 0 position 9\n";
     assert!(rt; are_zones(rt.alloc(), 9, 5, true, refused));

@@ -18,8 +18,8 @@ returns-clause-front c =
     let need = need_in c.args.plan.now c.args.port in
     let at = instant_in c.args.plan.now c.args.port in
     let whole : c.push_line.new.out.items ≡ old ++ need_line need at =
-        c.in_ok-push_line.ensures.text ∙ ap (λ t. old ++ t) c.need_line.ensures
-        ∙ ap (λ n. old ++ need_line n c.instant.result) c.need.ensures ∙ ap (λ i. old ++ need_line need i) c.instant.ensures in
+    c.in_ok-push_line.ensures.text ∙ ap (λ t. old ++ t) c.need_line.ensures
+    ∙ ap (λ n. old ++ need_line n c.instant.result) c.need.ensures ∙ ap (λ i. old ++ need_line need i) c.instant.ensures in
     subst (λ ps. OnErr c.push_pairs.result (IsFront old (need_line need at ++ pair_lines (map pair_of ps)) new)) c.witness.ensures
     (behind c.push_pairs.result old (need_line need at) (pair_lines (map pair_of c.witness.result.now)) c.push_line.new.out.items new whole
     c.push_pairs.ensures.front)
