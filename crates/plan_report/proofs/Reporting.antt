@@ -1,5 +1,5 @@
 -- What a plan tells of a source is what the definitions say of it, so it is printed alike.
-use Rattle.std.proofs.Common.{◌≡◌, ◌≤◌, ◌+◌, ℕ, List, [], ◌∷◌, ◌++◌, length, map, Bool, true, false, cond, Option, Some, None, refl, ap, sym, subst, ◌∙◌, arith, append-nil}
+use Rattle.std.proofs.Common.{◌≡◌, ◌≤◌, ◌+◌, ℕ, List, [], ◌∷◌, ◌++◌, length, map, Bool, true, false, cond, refl, ap, sym, ◌∙◌, arith, append-nil}
 use Rattle.std.specs.Prelude.{option_map, unwrap_or, flat_map, sum_by, nat_lt}
 use Rattle.std.proofs.Math.Path.{fun_ext}
 use Rattle.mt_base.specs.Midi.{MidiEvent}
@@ -13,14 +13,13 @@ use Rattle.retune_model.specs.Dump.{from_up, parts_with_notes}
 use Rattle.channel_model.specs.Rows.{needs_of, only}
 use Rattle.channel_model.specs.MpeOutput.{Zone as ZoneOf, zones_for, zone_with}
 use Rattle.lifetimes.specs.Views.{pair_of}
-use Rattle.channel_plan.specs.declared.fault.Instant.{Instant}
 use Rattle.channel_plan.specs.declared.plan.Plan.{Plan}
 use Rattle.channel_plan.specs.declared.plan.Zone.{Zone}
-use Rattle.channel_plan.specs.Told.{ports_in, need_in, instant_in, witness_in, zone_in, zone_pairs_in}
+use Rattle.channel_plan.specs.Told.{ports_in, instant_in, witness_in, zone_in, zone_pairs_in}
 use Rattle.channel_plan.specs.Planned as planned
 use Rattle.plan_report.specs.Texts.{need_line, pair_lines, zone_line, port_lines}
-use Rattle.plan_report.specs.Told.{need_told, need_lines, zone_lines_if, zone_told, zones_told, zone_lines, members_if, channels_of_port, channels_below, channels_told}
-use Rattle.plan_report.specs.Reported.{port_need, needs_reported, port_zone, port_zones, zones_reported, port_channels, channels_reported, IsReported, PlansAreReported}
+use Rattle.plan_report.specs.Told.{need_told, zone_lines_if, zone_told, zones_told, members_if, channels_of_port, channels_below, channels_told}
+use Rattle.plan_report.specs.Reported.{port_need, port_zones, port_channels, channels_reported, PlansAreReported}
 
 -- ---- a port has at most two zones
 
