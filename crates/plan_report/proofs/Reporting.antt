@@ -62,7 +62,8 @@ needs : (o : Options) (allowed : ℕ → Bool) (table : Targets) (es : List Midi
 needs o allowed table es plan p z =
     ap (λ n. need_line n (instant_in plan z) ++ pair_lines (map pair_of (witness_in plan z))) (p.need z)
     ∙ ap (λ i. need_line (planned.need_told o table es z) i ++ pair_lines (map pair_of (witness_in plan z))) (p.instant z)
-    ∙ ap (λ ps. need_line (planned.need_told o table es z) (planned.instant_of es (planned.position_told o table es z)) ++ pair_lines ps) (p.witness z)
+    ∙ ap (λ ps. need_line (planned.need_told o table es z) (planned.instant_of es (planned.position_told o table es z)) ++ pair_lines ps)
+    (p.witness z)
 
 zone_at : (o : Options) (allowed : ℕ → Bool) (table : Targets) (es : List MidiEvent) (plan : Plan) → planned.IsPlan o allowed table es plan
     → (z i : ℕ) → zone_told plan z i
@@ -87,8 +88,8 @@ channels : (o : Options) (allowed : ℕ → Bool) (table : Targets) (es : List M
 channels o allowed table es plan p z =
     ap (λ n. n + members_if (zone_in plan z 0) + members_if (zone_in plan z 1)) (p.need z)
     ∙ ap (λ x. planned.need_told o table es z + members_if x + members_if (zone_in plan z 1)) (p.zones z 0)
-    ∙ ap (λ x. planned.need_told o table es z + members_if (option_map (planned.zone_told o table es z) (nth 0 (planned.zones_told o.route o table es z)))
-    + members_if x) (p.zones z 1)
+    ∙ ap (λ x. planned.need_told o table es z
+    + members_if (option_map (planned.zone_told o table es z) (nth 0 (planned.zones_told o.route o table es z))) + members_if x) (p.zones z 1)
     ∙ two_counts (planned.zone_told o table es z) (planned.zones_told o.route o table es z) (planned.need_told o table es z) (λ x. refl)
     (few_told o.route o table es z)
 

@@ -11,8 +11,8 @@ pub returns-in_err-push_line-clause-front : goal.returns-in_err-push_line-clause
 returns-in_err-push_line-clause-front c =
     let pairs = c.args.pairs.now in
     let pair = c.pair-item.result in
-    on_error _ _ (next_front pair_line (map pair_of pairs) c.loop-pair.pair-index (pair_of pair) (pair_of pair) c.args.out.now.items c.loop-pair.out.items
-    c.push_line.new.out.items (omega (arith, c.loop-pair-test.true, length-map pairs pair_of))
+    on_error _ _ (next_front pair_line (map pair_of pairs) c.loop-pair.pair-index (pair_of pair) (pair_of pair) c.args.out.now.items
+    c.loop-pair.out.items c.push_line.new.out.items (omega (arith, c.loop-pair-test.true, length-map pairs pair_of))
     (ap pair_of c.pair-item.is ∙ sym (get_or-map pair_of pairs c.loop-pair.pair-index pair)) c.loop-pair.invariant
     (nothing c.loop-pair.out.items (pair_line (pair_of pair)) c.push_line.new.out.items c.in_err-push_line.ensures.same))
 
