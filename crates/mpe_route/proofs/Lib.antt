@@ -1,0 +1,12 @@
+mod PlannedZones
+mod Ranges
+mod Unbent
+mod Kit
+mod Source
+mod Released
+mod Channels
+mod Aimed
+mod Bends
+mod Block
+mod Steps
+mod Passing
