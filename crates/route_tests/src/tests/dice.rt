@@ -6,10 +6,8 @@ const RESET: &[u8] = b"\x7e\x7f\x09\x01\xf7";
 /// A message of no known maker.
 const OTHER: &[u8] = b"\x7d\x01\xf7";
 
-/// Keys of the first channel. Those of the second have fewer pitches, for which an upper zone has room.
-const KEYS: [u8; 7] = [60, 61, 62, 63, 65, 71, 72];
-
-const FEW_KEYS: [u8; 4] = [60, 62, 65, 67];
+/// The keys of all notes: each pitch of an octave, and some again.
+pub const KEYS: [u8; 15] = [60, 61, 62, 63, 64, 65, 66, 67, 68, 69, 70, 71, 72, 48, 55];
 
 /// Numbers from a seed, by a linear congruential generator.
 #[derive(Drop)]
@@ -85,11 +83,7 @@ impl Dice {
 
     /// A note on, or a note off by either spelling.
     fn note(&mut self, channel: Channel) -> Msg {
-        let key = if channel.number() == 1 {
-            self.pick(&FEW_KEYS)
-        } else {
-            self.pick(&KEYS)
-        };
+        let key = self.pick(&KEYS);
         let velocity = self.byte();
         match self.roll(9) {
             0 => Msg::NoteOn {

@@ -61,15 +61,20 @@ impl Ear {
         if let What::Meta { kind: 0x2f, .. } = what {
             return true;
         }
-        if !is_valid(what) || !self.receiver.room(what) || self.taken == u32::MAX {
-            return false;
+        if is_valid(what) && self.taken < u32::MAX && self.receiver.room(what) {
+            self.receiver.step(tick, what);
+            self.taken += 1;
+            self.strike(what);
+            true
+        } else {
+            false
         }
-        self.taken += 1;
+    }
+
+    fn strike(&mut self, what: &What<'_>) {
         if let What::Message(Msg::NoteOn { channel, key, .. }) = what {
             self.struck[channel.number() as usize] |= 1u128.wrapping_shl(*key as u32);
         }
-        self.receiver.step(tick, what);
-        true
     }
 
     /// The notes that sound on a channel are put to others.

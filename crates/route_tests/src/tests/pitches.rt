@@ -27,6 +27,17 @@ pub fn target_key(table: &KeyTable, options: &Options, key: u8) -> Option<u8> {
     }
 }
 
+/// The steps of the bend with which the output plays a source key, on the routes of bends.
+pub fn steps_of(table: &KeyTable, options: &Options, key: u8) -> Option<i32> {
+    if !bends(options) || key > 127 || options.range < 1 || options.range > 96 {
+        return None;
+    }
+    match table.bend_aim(key, options.range) {
+        Aim::Bend { steps, .. } => Some(steps),
+        Aim::Unmapped | Aim::OutOfDevice | Aim::Mts { .. } => None,
+    }
+}
+
 /// By how many grains the part's own bend moves a note: on the bend route in whole steps of the output's range.
 fn moved(options: &Options, state: &ChannelState) -> i128 {
     let bend = state.bend as i64 - 8192;
@@ -38,8 +49,9 @@ fn moved(options: &Options, state: &ChannelState) -> i128 {
     if range == 0 {
         return 0;
     }
-    let steps = (2 * bend * cents + range).div_euclid(2 * range);
-    390_625_000 * options.range as i128 * steps as i128
+    let bent = (2 * bend).wrapping_mul(cents).wrapping_add(range);
+    let steps = bent.div_euclid(2 * range);
+    (390_625_000 * options.range as i128).saturating_mul(steps as i128)
 }
 
 /// Between what pitches a source note on a key lies, by its scale and its part's tuning and bend, in grains above

@@ -116,15 +116,16 @@ impl Played {
         port: u8,
     ) -> Result<(), Unlike> {
         let mut passed = 0u32;
-        let mut place = self.place;
-        while place < out.len() && out[place].tick <= cause.tick {
+        for place in self.place..out.len() {
             let event = &out[place];
-            place += 1;
+            if event.tick > cause.tick {
+                break;
+            }
+            self.place = place + 1;
             if is_of(event, port) && self.hear(asked, cause, event)? {
                 passed = passed.saturating_add(1);
             }
         }
-        self.place = place;
         let wanted = is_passed(asked, &cause.what) as u32;
         if passed == wanted {
             Ok(())

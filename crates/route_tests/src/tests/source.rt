@@ -1,12 +1,13 @@
 ghost use Rattle.std.specs.Prelude.{◌≡◌, ◌≤◌};
 ghost use Rattle.lifetimes.specs.Stands.{position_of, tick_of};
 
-use super::dice::Dice;
+use super::dice::{Dice, KEYS};
 use super::ear::is_valid;
+use super::pitches::steps_of;
 use super::writing::Track;
 use key_pitch::KeyTable;
 use lifetimes::{Options, Parts, StepFault};
-use mt_base::{Event, What};
+use mt_base::{Channel, Event, Msg, Pair, Part, What};
 use std::alloc::Global;
 use std::test::Fail;
 
@@ -43,10 +44,40 @@ impl Draft {
         }
     }
 
-    /// Takes an event, unless it has a fault.
+    /// The pair of a note, where a channel is brought to its bend.
+    fn pair(&self, port: u8, channel: Channel, key: u8) -> Option<Pair> {
+        let options = self.parts.options();
+        let steps = steps_of(self.parts.table(), &options, key)?;
+        Some(Pair {
+            part: Part { port, channel },
+            steps,
+        })
+    }
+
+    /// Whether an event begins a note of a pair that finds no room: on each part few pairs hold at once, though many come.
+    fn is_crowded(&self, event: &Event<'_>) -> bool {
+        let What::Message(Msg::NoteOn { channel, key, .. }) = event.what else {
+            return false;
+        };
+        let port = port_of(event.track);
+        match self.pair(port, channel, key) {
+            Some(pair) if !self.parts.holds(&pair) => {
+                let mut held = 0u32;
+                for other in KEYS {
+                    if let Some(pair) = self.pair(port, channel, other) {
+                        held = held.saturating_add(self.parts.holds(&pair) as u32);
+                    }
+                }
+                held >= if channel.number() == 0 { 6 } else { 3 }
+            }
+            _ => false,
+        }
+    }
+
+    /// Takes an event, unless it has a fault or finds no room.
     fn take(&mut self, event: &Event<'_>) -> Result<(), Fail> {
         let may_come = is_valid(&event.what) && event.track < TRACKS && self.tick <= event.tick;
-        if !may_come || event.tick >= 0x1000_0000 || self.position == u32::MAX {
+        if !may_come || self.is_crowded(event) || event.tick >= 0x1000_0000 || self.position == u32::MAX {
             return Ok(());
         }
         match self.parts.step(self.position + 1, event) {

@@ -14,7 +14,7 @@ look-requires c κs =
     let n = length c.args.smf.now.tracks in
     let es = c.new.result.all in
     let playable = c.new.ensures.playable in
-    let few : n ≤ 1024 = omega (arith, c.tracks.ensures.few, c.tracks.ensures.value) in
+    let few : n ≤ 1024 = omega (arith, c.tracks-count.ensures.few, c.tracks-count.ensures.value) in
     let table : by_onset (table_in c.new-parts.result).now ≡ by_onset c.args.table.now = ap (λ b. by_onset b.now) c.new-parts.ensures.table in
     let stands = subst (λ t. Stands t c.new-parts.result []) (sym table) c.new-parts.ensures.stands in
     ((refl, tt), (stands, (playable.valid, (c.playable_in_order.ensures.ticks n es playable, (few_tracks n es playable few, c.new.ensures.few)))))

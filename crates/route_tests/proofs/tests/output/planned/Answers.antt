@@ -15,7 +15,7 @@ pub build-requires : goal.build-requires
 build-requires c κs =
     let es = c.new.result.all in
     let n = length c.args.smf.now.tracks in
-    let few : n ≤ 1024 = omega (arith, c.tracks.ensures.few, c.tracks.ensures.value) in
+    let few : n ≤ 1024 = omega (arith, c.tracks-count.ensures.few, c.tracks-count.ensures.value) in
     let table : by_onset (table_in c.new-parts.result).now ≡ by_onset c.args.table.now = ap (λ b. by_onset b.now) c.new-parts.ensures.table in
     let stands = subst (λ t. Stands t c.new-parts.result []) (sym table) c.new-parts.ensures.stands in
     let asked_for = are_asked n es (c.playable_in_order.ensures.ticks n es c.new.ensures.playable) c.new.ensures.playable few c.new.ensures.few in
