@@ -17,4 +17,4 @@ pub few_tracks : (n : ℕ) (es : List MidiEvent) → IsPlayable n es → n ≤ 1
 few_tracks n es playable few = all_weaker (λ e. e.track < n) (λ e. e.track < 1024) (λ e h. omega (arith, h, few)) es playable.in_tracks
 
 pub are_asked : (n : ℕ) (es : List MidiEvent) → AreInOrder 0 es → IsPlayable n es → n ≤ 1024 → length es ≤ 2097152 → AreAsked es
-are_asked n es order playable few short = record { valid = playable.valid; order = order; tracks = few_tracks n es playable few; few = short; }
+are_asked n es order playable few short = record { valid = playable.valid; order = order; tracks = few_tracks n es playable few; few = short }

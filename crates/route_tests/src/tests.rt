@@ -21,8 +21,7 @@ use std::alloc::Global;
 use std::process::Abort;
 use std::test::Fail;
 
-const JUST: &[u8] =
-    b"just\n12\n16/15\n9/8\n6/5\n5/4\n4/3\n45/32\n3/2\n8/5\n5/3\n9/5\n15/8\n2/1\n";
+const JUST: &[u8] = b"just\n12\n16/15\n9/8\n6/5\n5/4\n4/3\n45/32\n3/2\n8/5\n5/3\n9/5\n15/8\n2/1\n";
 
 /// Two keys of each octave share a pitch, and one has none.
 const UNEVEN: &[u8] =
@@ -72,7 +71,9 @@ fn unlike(
     if written.len() > 4_194_304 {
         return Err("too long".into());
     }
-    let out = read_smf(alloc, written.as_slice()).ok().ok_or("not read again")?;
+    let out = read_smf(alloc, written.as_slice())
+        .ok()
+        .ok_or("not read again")?;
     let events = events_of(alloc, &smf)?;
     let played = events_of(alloc, &out)?;
     if events.len() < EVENTS as usize {

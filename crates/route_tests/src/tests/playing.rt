@@ -58,12 +58,20 @@ fn is_passed(asked: &Asked<'_>, what: &What<'_>) -> bool {
 fn are_same(a: &What<'_>, b: &What<'_>) -> bool {
     match (a, b) {
         (What::Message(x), What::Message(y)) => *x == *y,
-        (What::Sysex { lead, bytes }, What::Sysex { lead: other, bytes: more }) => {
-            *lead == *other && *bytes == *more
-        }
-        (What::Meta { kind, bytes }, What::Meta { kind: other, bytes: more }) => {
-            *kind == *other && *bytes == *more
-        }
+        (
+            What::Sysex { lead, bytes },
+            What::Sysex {
+                lead: other,
+                bytes: more,
+            },
+        ) => { *lead == *other && *bytes == *more }
+        (
+            What::Meta { kind, bytes },
+            What::Meta {
+                kind: other,
+                bytes: more,
+            },
+        ) => { *kind == *other && *bytes == *more }
         _ => false,
     }
 }
@@ -92,7 +100,14 @@ impl Played {
         if !self.ear.hear(event.tick, &event.what) {
             return Err(Unlike::Refused);
         }
-        if let What::Message(Msg::NoteOn { channel, key, velocity }) = event.what {
+        if let What::Message(
+            Msg::NoteOn {
+                channel,
+                key,
+                velocity,
+            },
+        ) = event.what
+        {
             if velocity > 0 && asked.is_retuned(channel) {
                 self.struck = self.ear.pitch(channel, key);
             }

@@ -77,7 +77,11 @@ impl Draft {
     /// Takes an event, unless it has a fault or finds no room.
     fn take(&mut self, event: &Event<'_>) -> Result<(), Fail> {
         let may_come = is_valid(&event.what) && event.track < TRACKS && self.tick <= event.tick;
-        if !may_come || self.is_crowded(event) || event.tick >= 0x1000_0000 || self.position == u32::MAX {
+        if !may_come
+            || self.is_crowded(event)
+            || event.tick >= 0x1000_0000
+            || self.position == u32::MAX
+        {
             return Ok(());
         }
         match self.parts.step(self.position + 1, event) {
@@ -118,7 +122,11 @@ pub fn source(
     let mut dice = Dice { state: seed };
     let mut draft = Draft::new(alloc, table, options);
     for track in 0..TRACKS {
-        let bytes: &[u8] = if port_of(track) == 0 { b"\x00" } else { b"\x01" };
+        let bytes: &[u8] = if port_of(track) == 0 {
+            b"\x00"
+        } else {
+            b"\x01"
+        };
         let what = What::Meta { kind: 0x21, bytes };
         draft.take(&Event {
             tick: 0,

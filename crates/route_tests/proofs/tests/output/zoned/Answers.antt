@@ -32,7 +32,7 @@ translate-requires c κs =
     let out : c.in_ok-out.out ≡ map written (distributed n []) = c.in_ok-out.ensures.stands ∙ ap (λ (k : ℕ). map written (distributed k [])) c.tracks.ensures.value in
     let order = c.playable_in_order.ensures.ticks n es playable in
     let planned : IsPlanOf p u es plan = handed (λ x y fs. IsPlanOf x y fs plan) o p t u (merged file) es options table c.new-2.ensures.all c.requires.plan in
-    let zonable : IsZonable p u es plan = record { route = route; range = range; valid = playable.valid; in_order = order; planned = planned; } in
+    let zonable : IsZonable p u es plan = record { route = route; range = range; valid = playable.valid; in_order = order; planned = planned } in
     let may = c.puts_are_dealt.ensures.may n (zoned p u es plan) (c.zoned_plays_the_same.ensures.playable p u es plan zonable n playable) in
     let stands = subst (λ x. Stands x c.new-parts.result []) (sym table) c.new-parts.ensures.stands in
     let put = subst (λ (w : List Written). AllMayPut w (zoned p u es plan)) (sym out) may in
@@ -57,7 +57,7 @@ returns c =
     let out : c.in_ok-out.out ≡ map written (distributed n []) = c.in_ok-out.ensures.stands ∙ ap (λ (k : ℕ). map written (distributed k [])) c.tracks.ensures.value in
     let order = c.playable_in_order.ensures.ticks n es playable in
     let planned : IsPlanOf p u es plan = handed (λ x y fs. IsPlanOf x y fs plan) o p t u (merged file) es options table c.new-2.ensures.all c.requires.plan in
-    let zonable : IsZonable p u es plan = record { route = route; range = range; valid = playable.valid; in_order = order; planned = planned; } in
+    let zonable : IsZonable p u es plan = record { route = route; range = range; valid = playable.valid; in_order = order; planned = planned } in
     let after = c.zoned_plays_the_same.ensures.playable p u es plan zonable n playable in
     let stands = c.in_ok-translate.ensures.put ∙ ap (λ (w : List Written). put_all w (zoned p u es plan)) out ∙ c.puts_are_dealt.ensures.dealt n (zoned p u es plan) after in
     c.into_tracks.ensures.ended n (zoned p u es plan) stands after
