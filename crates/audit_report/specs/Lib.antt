@@ -1,0 +1,4 @@
+pub mod Played
+pub mod Audit
+pub mod Texts
+pub mod Laws
