@@ -214,3 +214,25 @@ plays_same_music Good laws scaling o table used row plan ns last given timely h 
       ]
     ] in
     record { notes = is.notes; sound = is.sound; beginnings = is.beginnings }
+
+-- ---- the output's retuned notes, whichever way they are told apart
+
+pub notes_either : (Good : State → Type 0) → Laws Good → (o : Options) (table : Targets) (used : ℕ → Bool) → AreUsed o used → (plan : PortRuns)
+    (ns : List Numbered) (last : ℕ) → IsPlanned Good o table used plan ns last → AreTimely ns last →
+    filter (λ (n : Note). is_retuned (keeps_drums o (unnumbered ns)) n.channel) (play quiet (port_output o table plan quiet quiet ns)).notes
+    ≡ filter (λ (n : Note). is_retuned o.keep_drums n.channel) (play quiet (port_output o table plan quiet quiet ns)).notes
+notes_either Good laws o table used row plan ns last given timely =
+    let source : List MidiEvent = unnumbered ns in
+    let out : List MidiEvent = port_output o table plan quiet quiet ns in
+    let played : List Note = (play quiet out).notes in
+    let S : Bool → Type 0 =
+    λ d. filter (λ (n : Note). is_retuned d n.channel) played ≡ filter (λ (n : Note). is_retuned o.keep_drums n.channel) played in
+    elim (cases_Bool (has_drums source)) [
+      | inl some ↦ subst S (sym (and_true o.keep_drums (has_drums source) some)) refl
+      | inr none ↦ elim (cases_Bool o.keep_drums) [
+        | inr lost ↦ subst S (sym (and_none o.keep_drums (has_drums source) lost)) refl
+        | inl keep ↦ either_notes (keeps_drums o source) o.keep_drums played (played_none laws.fade quiet out
+            (subst NoDrums (all_blocks o table plan ns last timely)
+            (none_to Good laws o table used row plan ns last given keep (none_has source none) last (omega arith))) tt)
+      ]
+    ]

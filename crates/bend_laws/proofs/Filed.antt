@@ -1,5 +1,5 @@
 -- The sentences of a file: those of its ports, and those of all its events.
-use Rattle.std.proofs.Common.{◌≡◌, ◌≤◌, ◌<◌, ℕ, Bool, List, ap, sym, ◌∙◌, subst, length, get_or, suc, true, arith}
+use Rattle.std.proofs.Common.{◌≡◌, ◌≤◌, ◌<◌, ℕ, Bool, List, ap, sym, ◌∙◌, subst, length, map, filter, get_or, suc, true, arith}
 use Rattle.std.specs.List.{AllByRecursion}
 use Rattle.mt_base.specs.Midi.{MidiEvent}
 use Rattle.mt_base.specs.Valid.{IsValidEvent}
@@ -8,11 +8,13 @@ use Rattle.midi_model.specs.Merged.{IsPlayable, merged}
 use Rattle.midi_model.specs.FileText.{MidiFile}
 use Rattle.midi_model.specs.Music.{quiet, channel_at, play, Music, state_at}
 use Rattle.retune_model.specs.Table.{Scaling}
-use Rattle.retune_model.specs.Options.{Options}
-use Rattle.retune_model.specs.Ports.{of_port, port_at, events_on, all_zero}
+use Rattle.midi_model.specs.Notes.{Note}
+use Rattle.midi_model.specs.Receiver.{start, after}
+use Rattle.retune_model.specs.Options.{Options, keeps_drums, is_retuned}
+use Rattle.retune_model.specs.Ports.{Numbered, of_port, port_at, events_on, all_zero}
 use Rattle.retune_model.specs.PlaysTheSame.{plain_device, PlayTheSame, PlaysTheSameMusic, KeepsDrums, HasSameShape, PlaysTheSame}
 use Rattle.retune_model.specs.Faults.{Targets}
-use Rattle.retune_model.specs.Pairs.{Pair, is_same_pair}
+use Rattle.retune_model.specs.Pairs.{Pair, is_same_pair, channels_of}
 use Rattle.retune_model.specs.Runs.{since}
 use Rattle.channel_model.specs.Choice.{from_state}
 use Rattle.channel_model.specs.Rows.{used_row, IsBendPlan}
@@ -23,7 +25,10 @@ use Rattle.bend_laws.specs.Moments.{port_output, Both}
 use Rattle.bend_laws.specs.Follows.{AreUsed, SoundAmong, Follows}
 use Rattle.bend_laws.specs.Positions.{both_at, up_to_position}
 use Rattle.bend_laws.proofs.Planning.{IsPlanned}
-use Rattle.bend_laws.specs.Simulation.{PlaysAt, IsState}
+use Rattle.bend_laws.specs.Simulation.{PlaysAt, IsState, planned_channels}
+use Rattle.bend_laws.proofs.Ticking.{music_all}
+use Rattle.bend_laws.proofs.Opening.{all_blocks}
+use Rattle.bend_laws.proofs.Drumless.{notes_either}
 use Rattle.bend_laws.proofs.Ticks.{AreTimely}
 use Rattle.bend_laws.specs.Bent.{uses, IsBent, IsTuned, IsOnUsed, NoneHeld}
 use Rattle.bend_laws.proofs.Given.{Laws}
@@ -158,3 +163,24 @@ port_left laws f o allowed table es need channel b z instant row plan k i low sm
           (free_silent z o table (uses o allowed n) p.used (runs.channel k) (runs.held (suc k)) here follows.notes among c u free) 0 128
           ∙ sym (keys_as IsWellFormed o table (uses o allowed n) runs (port_at es z) (length es) p.planned p.timely.rising row i c lane k low free);
     }
+
+-- the retuned notes of a port of the output are on the channels that the plan names
+pub port_channels : Laws IsWellFormed → PortFacts → BentPorts → (o : Options) (allowed : ℕ → Bool) (table : Targets) (es : List MidiEvent)
+    (need : ℕ → ℕ) (channel : ℕ → ℕ → Pair → ℕ) → IsBent o allowed table es need channel →
+    (z : ℕ) → channels_of (is_retuned (keeps_drums o (events_on z es))) z (bend_output o table channel es)
+    ≡ planned_channels o table (runs_on o table es channel z) (of_port z es) (length es)
+port_channels laws f ports o allowed table es need channel b z =
+    let runs : PortRuns = runs_on o table es channel z in
+    let ns : List Numbered = of_port z es in
+    let last : ℕ = length es in
+    let out : List MidiEvent = port_output o table runs quiet quiet ns in
+    let p : OnPort o allowed table es need channel z = on_port f o allowed table es need channel b z in
+    let drums : Bool = keeps_drums o (events_on z es) in
+    let on : (ℕ → Bool) → List Note → List ℕ = λ part ms. map (λ (n : Note). n.channel) (filter (λ (n : Note). part n.channel) ms) in
+    let played : (both_at o table runs ns last).out ≡ play quiet out =
+    out_is o table runs ns last ∙ ap (play quiet) (all_blocks o table runs ns last p.timely) in
+    ap (λ (xs : List MidiEvent). on (is_retuned drums) (after xs).music.notes) (ports o table channel es z)
+    ∙ ap (λ (m : Music). on (is_retuned drums) m.notes) (music_all start out)
+    ∙ ap (map (λ (n : Note). n.channel)) (notes_either IsWellFormed laws o table (uses o allowed (need z)) p.used runs ns last p.planned p.timely)
+    ∙ ap (λ (m : Music). on (is_retuned o.keep_drums) m.notes) (sym played)
+    ∙ (plays_at IsWellFormed laws o table (uses o allowed (need z)) p.used runs ns last p.planned last (omega arith)).channels

@@ -8,17 +8,17 @@ use Rattle.midi_model.specs.Writing.{track_bytes}
 use Rattle.midi_model.specs.FileText.{MidiFile}
 use Rattle.midi_model.specs.Music.{quiet, play, state_at}
 use Rattle.retune_model.specs.Table.{Scaling}
-use Rattle.retune_model.specs.Options.{Options}
+use Rattle.retune_model.specs.Options.{Options, keeps_drums, is_retuned}
 use Rattle.retune_model.specs.Ports.{of_port, port_at, events_on, music_at}
 use Rattle.retune_model.specs.PlaysTheSame.{plain_device, PlayTheSame, HasSameShape, PlaysTheSame}
 use Rattle.retune_model.specs.Faults.{Targets}
-use Rattle.retune_model.specs.Pairs.{Pair}
+use Rattle.retune_model.specs.Pairs.{Pair, channels_of}
 use Rattle.channel_model.specs.Choice.{from_state}
 use Rattle.channel_model.specs.Rows.{used_row, IsBendPlan}
 use Rattle.channel_model.specs.BendOutput.{runs_on, bend_output}
 use Rattle.bend_laws.specs.Moments.{port_output}
 use Rattle.bend_laws.specs.Positions.{both_at, up_to_position}
-use Rattle.bend_laws.specs.Simulation.{IsState, PlaysAt}
+use Rattle.bend_laws.specs.Simulation.{IsState, PlaysAt, planned_channels}
 use Rattle.bend_laws.specs.Bent.{uses, IsBent, IsTuned, IsOnUsed, NoneHeld}
 
 -- a sentence about a source with a plan for each of its ports
@@ -68,6 +68,13 @@ BentAddsFewBytes = OfBent (λ o allowed table es need channel. (track : ℕ) →
 abbrev pub BentIsOnTheRow : Type 0
 BentIsOnTheRow = OfBent (λ o allowed table es need channel. (z : ℕ) → AllByRecursion (IsOnUsed o (uses o allowed (need z)))
     (events_on z (bend_output o table channel es)))
+
+-- The retuned notes of each port are on the channels that the plan names. Where drums are kept and the port has none, channel 10 is a
+-- channel as any other.
+abbrev pub NotesAreOnTheirChannels : Type 0
+NotesAreOnTheirChannels = OfBent (λ o allowed table es need channel. (z : ℕ) →
+    channels_of (is_retuned (keeps_drums o (events_on z es))) z (bend_output o table channel es)
+    ≡ planned_channels o table (runs_on o table es channel z) (of_port z es) (length es))
 
 -- A channel of the used row that no run holds at the next event is in the state from which a run that begins there is brought, what is
 -- selected aside: what its last run's pair needed right after the last event at which it was held. `i` is its place of the row.

@@ -1,6 +1,6 @@
 //! What the bend route writes for a file.
 
-ghost use Rattle.bend_laws.specs.FileLaws.{PortsPlay, PortsAreTheirEvents, PortsAreTheirBlocks, BentPlaysTheSame, BentFilePlaysTheSame, BentIsPlayable, BentAddsFewBytes, BentIsOnTheRow, PortsAreLeft};
+ghost use Rattle.bend_laws.specs.FileLaws.{PortsPlay, PortsAreTheirEvents, PortsAreTheirBlocks, BentPlaysTheSame, BentFilePlaysTheSame, BentIsPlayable, BentAddsFewBytes, BentIsOnTheRow, NotesAreOnTheirChannels, PortsAreLeft};
 
 use channel_model::{best_is_free, outputs_apart};
 use midi_model::{music_laws, parameter_laws, receiver_laws, size_laws};
@@ -24,6 +24,7 @@ pub fn bend_plays_the_same()
     ensures ports { PortsPlay }
     ensures source { PortsAreTheirEvents }
     ensures out { PortsAreTheirBlocks }
+    ensures channels { NotesAreOnTheirChannels }
     ensures left { PortsAreLeft }
     ensures same { BentPlaysTheSame }
     ensures file { BentFilePlaysTheSame }

@@ -8,7 +8,7 @@ use Rattle.bend_laws.proofs.Ported.{PortFacts, HeldStandOnce, stand_once, timely
 use Rattle.retune_model.specs.Rests.{held_at}
 use Rattle.bend_laws.proofs.Causing.{CountLaws}
 use Rattle.bend_laws.proofs.Short.{file_short}
-use Rattle.bend_laws.proofs.Filed.{port_plays, port_blocks, same_file, file_playable, file_used, port_left, whole_file}
+use Rattle.bend_laws.proofs.Filed.{port_plays, port_blocks, same_file, file_playable, file_used, port_channels, port_left, whole_file}
 use Rattle.channel_model.specs.BendOutput.{runs_on}
 use Rattle.retune_model.specs.Ports.{of_port}
 use Rattle.bend_laws.proofs.files.bend_plays_the_same.Goals as goal
@@ -75,6 +75,7 @@ returns c =
       source = λ o allowed table es need channel b z k. source_is_played o table (runs_on o table es channel z)
           (of_port z es) k (timely_port facts.timed o allowed table es need channel b z).rising;
       out = port_blocks facts;
+      channels = port_channels laws facts c.outputs_apart.ensures.bend;
       left = port_left laws facts;
       same = same_file music facts c.outputs_apart.ensures.bend;
       file = whole_file music facts c.outputs_apart.ensures.bend;

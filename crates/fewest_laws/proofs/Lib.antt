@@ -1,0 +1,4 @@
+mod Using
+mod Reading
+mod Bent
+mod Zoned

@@ -1,0 +1,3 @@
+pub mod Using
+pub mod Fewest
+pub mod Laws
