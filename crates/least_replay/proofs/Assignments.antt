@@ -27,7 +27,7 @@ pub not_last : (channel : ℕ → ℕ) (c n : ℕ) → channel n ≢ c → last_
 not_last channel c n d = let t : nat_eq (channel n) c ≡ false = grind (arith, nat_tests) in rw t refl
 
 -- what is found is on the channel, and no later one is
-found : (channel : ℕ → ℕ) (c n a : ℕ) → last_on channel c n ≡ Some a → (a < n) × (channel a ≡ c) × ((x : ℕ) → a < x → x < n → channel x ≢ c)
+pub found : (channel : ℕ → ℕ) (c n a : ℕ) → last_on channel c n ≡ Some a → (a < n) × (channel a ≡ c) × ((x : ℕ) → a < x → x < n → channel x ≢ c)
 found channel c zero a h = cc
 found channel c (suc n) a h = elim (same_or_not (channel n) c) [
   | inl e ↦
@@ -45,7 +45,7 @@ found channel c (suc n) a h = elim (same_or_not (channel n) c) [
 ]
 
 -- where nothing is found no run before is on the channel
-none_found : (channel : ℕ → ℕ) (c n : ℕ) → last_on channel c n ≡ None → (x : ℕ) → x < n → channel x ≢ c
+pub none_found : (channel : ℕ → ℕ) (c n : ℕ) → last_on channel c n ≡ None → (x : ℕ) → x < n → channel x ≢ c
 none_found channel c zero h x l = absurd (omega (arith, l))
 none_found channel c (suc n) h x l = elim (same_or_not (channel n) c) [
   | inl e ↦ absurd (let f : last_on channel c (suc n) ≡ Some n = at_last channel c n e in cc (f, h))

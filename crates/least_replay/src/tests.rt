@@ -1,3 +1,5 @@
+mod measured;
+
 use crate::confirming::confirm;
 use crate::costs::Costs;
 use crate::cover::Cover;

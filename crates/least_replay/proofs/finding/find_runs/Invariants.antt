@@ -1,0 +1,31 @@
+use Rattle.std.proofs.Common.{◌≡◌, ◌≤◌, ◌<◌, length, take, drop}
+use Rattle.std.specs.List.{AllByRecursion}
+use Rattle.mt_base.specs.Valid.{IsValidEvent}
+use Rattle.midi_model.specs.Order.{AreInOrder}
+use Rattle.lifetimes.specs.Stands.{Stands, asked, table_in, position_of, tick_of}
+use Rattle.least_replay.specs.Found.{Goes, resets_on}
+use Rattle.least_replay.specs.FoundView.{all_seen, slots_of, AreGoing}
+use Rattle.least_replay.specs.Serving.{channel_at}
+use Rattle.least_replay.proofs.finding.find_runs.Given as goal
+
+abbrev pub invariant-events : goal.invariant-events
+invariant-events g l = record {
+  all : g.S.EventStream.all l.stream ≡ g.S.EventStream.all l.fn.stream;
+  table : table_in l.parts ≡ table_in l.fn.parts;
+  options : asked l.parts ≡ asked l.fn.parts;
+  at : position_of l.parts ≡ l.position;
+  low : l.position ≤ length (g.S.EventStream.all l.fn.stream);
+  rest : g.S.EventStream.rest l.stream ≡ drop l.position (g.S.EventStream.all l.fn.stream);
+  order : AreInOrder (tick_of l.parts) (g.S.EventStream.rest l.stream);
+  valid : AllByRecursion IsValidEvent (g.S.EventStream.rest l.stream);
+  tracks : AllByRecursion (λ e. e.track < 1024) (g.S.EventStream.rest l.stream);
+  stands : Stands (g.T.Aims.table (table_in l.parts)) l.parts (take l.position (g.S.EventStream.all l.fn.stream));
+  resets : l.found.resets ≡ resets_on (g.S.EventStream.all l.fn.stream) l.port l.position;
+  going : AreGoing (asked l.parts) l.found;
+  goes : Goes (asked l.parts) (g.T.Aims.table (table_in l.parts)) (g.S.EventStream.all l.fn.stream)
+      (channel_at (asked l.parts) (g.S.EventStream.all l.fn.stream) l.plan) l.port l.position
+      (all_seen l.found.runs.items) (slots_of l.found.going.items);
+}
+
+abbrev pub decreases-events : goal.decreases-events
+decreases-events g l = length (g.S.EventStream.rest l.stream)
