@@ -1,5 +1,5 @@
 -- The channels that a plan names for the notes of a port, note by note.
-use Rattle.std.proofs.Common.{◌≡◌, ◌≤◌, ◌<◌, ◌+◌, ℕ, zero, suc, List, [], ◌∷◌, ◌++◌, Bool, true, false, cond, Option, Some, None, refl, ap, sym, ◌∙◌, subst, length, map, get_or, arith, inl, inr}
+use Rattle.std.proofs.Common.{◌≡◌, ◌≤◌, ◌<◌, ◌+◌, ℕ, zero, suc, List, [], ◌∷◌, ◌++◌, Bool, true, false, cond, Option, Some, None, refl, ap, sym, ◌∙◌, length, map, get_or, arith, inl, inr}
 use Rattle.std.specs.Prelude.{is_some}
 use Rattle.std.proofs.lemmas.Bool.{cases_lt}
 use Rattle.std.proofs.lemmas.List.{length-append, get_or_append_left, append-nil}
@@ -80,7 +80,8 @@ pub planned_named : (o : Options) (table : Targets) (port : PortEvents) (runs : 
     → (k : ℕ) → planned_channels o table runs port.events k ≡ named o (is_part o) table port runs.channel k
 planned_named o table port runs ascend same zero = refl
 planned_named o table port runs ascend same (suc k) =
-    ap (λ cs. cs ++ channel_if runs.number o table (runs.channel (suc k)) (port_event port.events (suc k))) (planned_named o table port runs ascend same k)
+    ap (λ cs. cs ++ channel_if runs.number o table (runs.channel (suc k)) (port_event port.events (suc k)))
+    (planned_named o table port runs ascend same k)
     ∙ ap (λ cs. named o (is_part o) table port runs.channel k ++ cs)
     (ap (λ z. channel_if z o table (runs.channel (suc k)) (port_event port.events (suc k))) same
     ∙ event_place port.number o table (runs.channel (suc k)) (port_event port.events (suc k))
@@ -92,7 +93,8 @@ pub record IsReadTo (o : Options) (part : ℕ → Bool) (table : Targets) (port 
   pub each : (i : ℕ) → i < length (notes_at part port.events k) → get_or (named o part table port channel k) i 0
       ≡ channel (began_at part port.events last i) (pair_at o part table port last i)
 
-pub named_read : (o : Options) (part : ℕ → Bool) (table : Targets) (port : PortEvents) (channel : ℕ → Pair → ℕ) → Timely port → AreAimed o part table port.events
+pub named_read : (o : Options) (part : ℕ → Bool) (table : Targets) (port : PortEvents) (channel : ℕ → Pair → ℕ) → Timely port
+    → AreAimed o part table port.events
     → (last k : ℕ) → k ≤ last → IsReadTo o part table port channel last k
 named_read o part table port channel timed aimed last zero low =
     let none = (timeline part port timed).none in
@@ -102,7 +104,7 @@ named_read o part table port channel timed aimed last zero low =
     }
 named_read o part table port channel timed aimed last (suc k) low = (
     let before = named_read o part table port channel timed aimed last k (omega (arith, low)) in
-    elim (cases_lt (count at k) (count at (suc k))) [ | inl g ↦ more before g | inr g ↦ no_more before g ])
+    elim (cases_lt (count at k) (count at (suc k))) [ inl g ↦ more before g | inr g ↦ no_more before g ])
   where
     at : ℕ → List Note
     at = notes_at part port.events
@@ -161,7 +163,8 @@ named_read o part table port channel timed aimed last (suc k) low = (
         let all_before : length (named o part table port channel k) ≡ n = before.all in
         let later : count at (suc k) ≤ count at last = count_le T (suc k) last low in
         record {
-          all = ap length is ∙ length-append (named o part table port channel k) (place p ∷ []) ∙ (let e : length (named o part table port channel k) + 1 ≡ count at (suc k) = omega (arith, all_before, many) in e);
+          all = ap length is ∙ length-append (named o part table port channel k) (place p ∷ [])
+              ∙ (let e : length (named o part table port channel k) + 1 ≡ count at (suc k) = omega (arith, all_before, many) in e);
           each = λ i l. ap (λ cs. get_or cs i 0) is ∙ elim (cases_lt i n) [
             | inl old ↦ get_or_append_left (named o part table port channel k) (place p ∷ []) 0 i (omega (arith, old, all_before)) ∙ before.each i old
             | inr not_old ↦ (let last_one : i ≡ n = omega (arith, not_old, l, many) in

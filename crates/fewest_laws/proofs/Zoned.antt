@@ -1,10 +1,9 @@
 -- The output of the MPE route uses the fewest members of each zone.
-use Rattle.std.proofs.Common.{◌≡◌, ◌≢◌, ◌≤◌, ◌<◌, ◌+◌, ◌-◌, ℕ, zero, suc, List, [], ◌∷◌, ◌++◌, Bool, true, false, cond, nat_eq, Option, Some, None, refl, ap, sym, ◌∙◌, subst, length, map, filter, get_or, arith, inl, inr}
+use Rattle.std.proofs.Common.{◌≡◌, ◌≤◌, ◌<◌, ◌+◌, ◌-◌, ℕ, zero, suc, List, [], ◌∷◌, ◌++◌, Bool, true, false, cond, nat_eq, Some, refl, ap, sym, ◌∙◌, subst, length, map, filter, get_or, arith, inl, inr}
 use Rattle.std.specs.Prelude.{is_some, ◌&&◌}
 use Rattle.std.specs.List.{IsDistinct, AllByRecursion}
 use Rattle.std.proofs.lemmas.Bool.{cases_Bool, ne_eqb, eq-eqb, eqb-true}
 use Rattle.std.proofs.lemmas.Grind.{get_or_default_zero}
-use Rattle.std.proofs.lemmas.List.{append-nil}
 use Rattle.std.proofs.lemmas.Map.Keys.{IsDistinct-from_apart}
 use Rattle.mt_base.specs.declared.event.Msg.{Msg}
 use Rattle.mt_base.specs.declared.event.Msg.TheVariants.{NoteOn, NoteOff, KeyPressure, Control, Program, Pressure, Bend}
@@ -13,14 +12,13 @@ use Rattle.midi_model.specs.Music.{Music, quiet, play}
 use Rattle.midi_model.specs.MusicLaws.{NotesAge, Grows}
 use Rattle.midi_model.specs.Notes.{Note}
 use Rattle.midi_model.specs.Receiver.{start, after}
-use Rattle.midi_model.specs.Sysex.{doing}
 use Rattle.retune_model.specs.Options.{Options, is_drum_message, has_drums, keeps_drums, is_retuned}
-use Rattle.retune_model.specs.Faults.{Targets, is_part, target_of}
+use Rattle.retune_model.specs.Faults.{Targets, is_part}
 use Rattle.retune_model.specs.Pairs.{Pair, pairs_of, channels_of}
 use Rattle.retune_model.specs.Places.{nth}
 use Rattle.retune_model.specs.PlaysTheSame.{retuned_notes, bend_target_if}
-use Rattle.retune_model.specs.PortNeed.{IsNeedOf, need_of, notes_on, pairs_on, place_on}
-use Rattle.retune_model.specs.Ports.{Numbered, PortEvents, of_port, port_at, events_on, unnumbered, event_at, music_at, is_reset_at}
+use Rattle.retune_model.specs.PortNeed.{IsNeedOf, need_of, pairs_on}
+use Rattle.retune_model.specs.Ports.{Numbered, PortEvents, of_port, port_at, events_on, unnumbered, event_at, music_at}
 use Rattle.retune_model.specs.PortOutput.{through}
 use Rattle.retune_model.specs.Rests.{notes_at, nobody, pair_of, pair_at, began_at, begun_at, is_aimed, AreAimed}
 use Rattle.retune_model.specs.RunLaws.{NeedIsDetermined}
@@ -28,8 +26,7 @@ use Rattle.retune_model.specs.NeedLaws.{CountingFindsNeed}
 use Rattle.channel_model.specs.BendOutput.{PortRuns, runs_on}
 use Rattle.channel_model.specs.Laws.{ShortestMemberIsFree, ZonedPorts}
 use Rattle.channel_model.specs.MpeOutput.{Zone, member_at, members_from, zone_of, lower_allowed, upper_allowed, unzoned, zoned_block, next_zoned, mpe_output}
-use Rattle.channel_model.specs.Rows.{only, zone_row, zones_on, IsZonePlan}
-use Rattle.bend_laws.specs.Positions.{up_to_position}
+use Rattle.channel_model.specs.Rows.{only, zone_row, zones_on}
 use Rattle.bend_laws.specs.Simulation.{planned_channels}
 use Rattle.bend_laws.proofs.Drumless.{NoDrums, none_has, either}
 use Rattle.bend_laws.proofs.Opening.{all_up}
@@ -37,11 +34,11 @@ use Rattle.bend_laws.proofs.Placing.{port_within}
 use Rattle.bend_laws.proofs.Ticking.{music_all}
 use Rattle.mpe_laws.specs.FileLaws.{PortsAreTheirBlocks, PortsAreOnTheirChannels, ZonedIsOnZones, PlansServe}
 use Rattle.mpe_laws.specs.Positions.{zoned_at}
-use Rattle.mpe_laws.specs.Sources.{on_port, IsZone, AreAllowed, IsMpe, IsOnZones, in_its_zone, zoned_channel, IsPlannedMpe}
+use Rattle.mpe_laws.specs.Sources.{on_port, AreAllowed, IsMpe, in_its_zone, zoned_channel, IsPlannedMpe}
 use Rattle.mpe_laws.proofs.Allowed.{row_at}
-use Rattle.retune_model.proofs.Moments.{Timely, timely, HasTarget, chosen, begun_notes, begun_to, timeline, pairs_begun_at, aimed_at}
-use Rattle.retune_model.proofs.Timeline.{Timeline, AtMostOne}
-use Rattle.fewest_laws.specs.Fewest.{retuned_on, channels_beside, part_channels_read, IsFewestIn, AreFewestIn}
+use Rattle.retune_model.proofs.Moments.{Timely, timely, HasTarget, begun_notes, begun_to, timeline, pairs_begun_at, aimed_at}
+use Rattle.retune_model.proofs.Timeline.{AtMostOne}
+use Rattle.fewest_laws.specs.Fewest.{retuned_on, channels_beside, part_channels_read, IsFewestIn}
 use Rattle.fewest_laws.specs.Laws.{ZonedUsesFewest}
 use Rattle.fewest_laws.specs.Using.{AreOfRuns}
 use Rattle.fewest_laws.proofs.Reading.{named, planned_named, named_read, one_pair}
@@ -92,7 +89,8 @@ beside_grown part t b (n ∷ ns) (x ∷ xs) (c ∷ cs) ds g same =
     pick false = refl
 
 -- the note that begins
-beside_begun : (z : ℕ) (o : Options) (table : Targets) (part : ℕ → Bool) (place : Pair → ℕ) (b : List Note) → AtMostOne b → AllByRecursion (HasTarget o table) b
+beside_begun : (z : ℕ) (o : Options) (table : Targets) (part : ℕ → Bool) (place : Pair → ℕ) (b : List Note) → AtMostOne b
+    → AllByRecursion (HasTarget o table) b
     → beside part b (map place (pairs_of z o table b)) ≡ map place (pairs_of z o table (filter (λ (n : Note). part n.channel) b))
 beside_begun z o table part place [] one aimed = refl
 beside_begun z o table part place (n ∷ []) one aimed =
@@ -108,14 +106,20 @@ twice : (part whole : ℕ → Bool) → ((c : ℕ) → part c ≡ true → whole
     → filter (λ (n : Note). part n.channel) (filter (λ (n : Note). whole n.channel) ns) ≡ filter (λ (n : Note). part n.channel) ns
 twice part whole within [] = refl
 twice part whole within (n ∷ ns) = elim (cases_Bool (part n.channel)) [
-  | inl p ↦ ap (λ w. filter (λ (x : Note). part x.channel) (cond w (n ∷ filter (λ (x : Note). whole x.channel) ns) (filter (λ (x : Note). whole x.channel) ns))) (within n.channel p)
+  | inl p ↦
+      ap (λ w. filter (λ (x : Note). part x.channel)
+      (cond w (n ∷ filter (λ (x : Note). whole x.channel) ns) (filter (λ (x : Note). whole x.channel) ns))) (within n.channel p)
       ∙ ap (λ ys. cond (part n.channel) (n ∷ ys) ys) (twice part whole within ns)
-  | inr p ↦ pick p (whole n.channel) ∙ twice part whole within ns ∙ sym (ap (λ q. cond q (n ∷ filter (λ (x : Note). part x.channel) ns) (filter (λ (x : Note). part x.channel) ns)) p)
+  | inr p ↦ pick p (whole n.channel) ∙ twice part whole within ns
+      ∙ sym (ap (λ q. cond q (n ∷ filter (λ (x : Note). part x.channel) ns) (filter (λ (x : Note). part x.channel) ns)) p)
 ]
   where
-    pick : part n.channel ≡ false → (w : Bool) → filter (λ (x : Note). part x.channel) (cond w (n ∷ filter (λ (x : Note). whole x.channel) ns) (filter (λ (x : Note). whole x.channel) ns))
+    pick : part n.channel ≡ false → (w : Bool)
+        → filter (λ (x : Note). part x.channel) (cond w (n ∷ filter (λ (x : Note). whole x.channel) ns) (filter (λ (x : Note). whole x.channel) ns))
         ≡ filter (λ (x : Note). part x.channel) (filter (λ (x : Note). whole x.channel) ns)
-    pick p true = ap (λ q. cond q (n ∷ filter (λ (x : Note). part x.channel) (filter (λ (x : Note). whole x.channel) ns)) (filter (λ (x : Note). part x.channel) (filter (λ (x : Note). whole x.channel) ns))) p
+    pick p true =
+        ap (λ q. cond q (n ∷ filter (λ (x : Note). part x.channel) (filter (λ (x : Note). whole x.channel) ns))
+        (filter (λ (x : Note). part x.channel) (filter (λ (x : Note). whole x.channel) ns))) p
     pick p false = refl
 
 begun_twice : (part whole : ℕ → Bool) → ((c : ℕ) → part c ≡ true → whole c ≡ true) → (m : Music) (es : List MidiEvent)
@@ -124,7 +128,8 @@ begun_twice part whole within m [] = refl
 begun_twice part whole within m (e ∷ es) = twice part whole within _
 
 -- up to a position
-part_named : (o : Options) (part whole : ℕ → Bool) → ((c : ℕ) → part c ≡ true → whole c ≡ true) → (table : Targets) (port : PortEvents) (channel : ℕ → Pair → ℕ)
+part_named : (o : Options) (part whole : ℕ → Bool) → ((c : ℕ) → part c ≡ true → whole c ≡ true)
+    → (table : Targets) (port : PortEvents) (channel : ℕ → Pair → ℕ)
     → Timely port → ((k : ℕ) → AllByRecursion (HasTarget o table) (begun_to whole port.events (suc k)))
     → ((k : ℕ) → length (named o whole table port channel k) ≡ length (notes_at whole port.events k)) → (k : ℕ)
     → beside part (notes_at whole port.events k) (named o whole table port channel k) ≡ named o part table port channel k
@@ -135,7 +140,8 @@ part_named o part whole within table port channel timed aimed all (suc k) =
     let place : Pair → ℕ = channel (suc k) in
     beside_grown part (port.tick (suc k)) b (notes_at whole port.events k) (notes_at whole port.events (suc k)) (named o whole table port channel k)
     (map place (begun_at o whole table port (suc k))) (T.grows k) (all k)
-    ∙ ap (λ cs. cs ++ beside part b (map place (begun_at o whole table port (suc k)))) (part_named o part whole within table port channel timed aimed all k)
+    ∙ ap (λ cs. cs ++ beside part b (map place (begun_at o whole table port (suc k))))
+    (part_named o part whole within table port channel timed aimed all k)
     ∙ ap (λ cs. named o part table port channel k ++ cs)
     (ap (λ ps. beside part b (map place ps)) (sym (pairs_begun_at o whole table port k))
     ∙ beside_begun port.number o table part place b (T.one k) (aimed k)
@@ -163,7 +169,8 @@ upper_few : (drums : Bool) → upper_allowed drums ≤ 15
 upper_few true = omega arith
 upper_few false = omega arith
 
-good_zone : (o : Options) (drums : Bool) (zones : List Zone) → AreAllowed o drums zones → (i : ℕ) (zone : Zone) → nth i zones ≡ Some zone → IsGood o zones zone
+good_zone : (o : Options) (drums : Bool) (zones : List Zone) → AreAllowed o drums zones → (i : ℕ) (zone : Zone) → nth i zones ≡ Some zone
+    → IsGood o zones zone
 good_zone o drums [] h i zone is = absurd cc
 good_zone o drums (l ∷ []) h zero zone is =
     let same : l ≡ zone = cc in
@@ -217,13 +224,16 @@ row_apart zone few =
 -- ---- a port
 
 -- the retuned notes that are read from the source and from the output
-source_notes : (o : Options) (es : List MidiEvent) (z : ℕ) (whole : ℕ → Bool) → retuned_notes whole (after (events_on z es)) ≡ notes_at whole (of_port z es) (length es)
+source_notes : (o : Options) (es : List MidiEvent) (z : ℕ) (whole : ℕ → Bool) → retuned_notes whole (after (events_on z es)) ≡ notes_at whole
+    (of_port z es) (length es)
 source_notes o es z whole =
     ap (λ (m : Music). filter (λ (n : Note). whole n.channel) m.notes)
     (music_all start (events_on z es) ∙ ap (λ ns. play quiet (unnumbered ns)) (sym (all_up (length es) (of_port z es) (port_within z es))))
 
-out_channels : ZonedLaws → (o : Options) (table : Targets) (es : List MidiEvent) (zones : ℕ → List Zone) (channel : ℕ → ℕ → Pair → ℕ) → IsMpe o table es zones channel → (z : ℕ)
-    → channels_of (retuned_on o es z) z (mpe_output o table zones channel es) ≡ planned_channels (on_port o es z) table (runs_on o table es channel z) (of_port z es) (length es)
+out_channels : ZonedLaws → (o : Options) (table : Targets) (es : List MidiEvent) (zones : ℕ → List Zone) (channel : ℕ → ℕ → Pair → ℕ)
+    → IsMpe o table es zones channel → (z : ℕ)
+    → channels_of (retuned_on o es z) z (mpe_output o table zones channel es) ≡ planned_channels (on_port o es z) table (runs_on o table es channel z)
+    (of_port z es) (length es)
 out_channels laws o table es zones channel b z =
     let runs : PortRuns = runs_on o table es channel z in
     let ns = of_port z es in
@@ -231,7 +241,8 @@ out_channels laws o table es zones channel b z =
     let on : List Note → List ℕ = λ ms. map (λ (n : Note). n.channel) (filter (λ (n : Note). retuned_on o es z n.channel) ms) in
     let played : (zoned_at o table (zones z) runs ns (length es)).out ≡ play quiet out =
     laws.blocks o table es zones channel b z (length es)
-    ∙ ap (λ xs. play quiet (through (zoned_block o table (zones z) runs) (next_zoned o table (zones z) runs) unzoned xs)) (all_up (length es) ns (port_within z es)) in
+    ∙ ap (λ xs. play quiet (through (zoned_block o table (zones z) runs) (next_zoned o table (zones z) runs) unzoned xs))
+    (all_up (length es) ns (port_within z es)) in
     ap (λ (xs : List MidiEvent). on (after xs).music.notes) (laws.ports o table zones channel es z)
     ∙ ap (λ (m : Music). on m.notes) (music_all start out)
     ∙ ap (λ (m : Music). on m.notes) (sym played)
@@ -244,7 +255,8 @@ aimed_message : (o q : Options) (p r : ℕ → Bool) (table : Targets) (t : ℕ)
     → is_aimed o p table t (Says m) ≡ true → is_aimed q r table t (Says m) ≡ true
 aimed_message o q p r table t (NoteOn c k zero) range same h = refl
 aimed_message o q p r table t (NoteOn c k (suc v)) range same h =
-    ap (λ b. cond b (is_some (bend_target_if q.range (table k t))) true) same ∙ ap (λ n. cond (p c) (is_some (bend_target_if n (table k t))) true) range ∙ h
+    ap (λ b. cond b (is_some (bend_target_if q.range (table k t))) true) same
+    ∙ ap (λ n. cond (p c) (is_some (bend_target_if n (table k t))) true) range ∙ h
 aimed_message o q p r table t (NoteOff c k v) range same h = refl
 aimed_message o q p r table t (KeyPressure c k v) range same h = refl
 aimed_message o q p r table t (Control c n v) range same h = refl
@@ -262,7 +274,8 @@ aimed_what o q p r table t (Says m) range same h = aimed_message o q p r table t
 aimed_what o q p r table t (SysexOf lead bytes) range same h = refl
 aimed_what o q p r table t (MetaOf kind bytes) range same h = refl
 
-aimed_as : (o q : Options) (p r : ℕ → Bool) (table : Targets) (ns : List Numbered) → q.range ≡ o.range → AllByRecursion (λ n. AgreeOn p r n.event.what) ns
+aimed_as : (o q : Options) (p r : ℕ → Bool) (table : Targets) (ns : List Numbered) → q.range ≡ o.range
+    → AllByRecursion (λ n. AgreeOn p r n.event.what) ns
     → AreAimed o p table ns → AreAimed q r table ns
 aimed_as o q p r table [] range same h = tt
 aimed_as o q p r table (n ∷ ns) range same h =
@@ -277,7 +290,8 @@ agree_always p (n ∷ ns) = (by_what n.event.what, agree_always p ns)
     by_what (SysexOf lead bytes) = tt
     by_what (MetaOf kind bytes) = tt
 
-agree_drumless : (a b : Bool) (ns : List Numbered) → NoDrums (unnumbered ns) → AllByRecursion (λ n. AgreeOn (is_retuned a) (is_retuned b) n.event.what) ns
+agree_drumless : (a b : Bool) (ns : List Numbered) → NoDrums (unnumbered ns)
+    → AllByRecursion (λ n. AgreeOn (is_retuned a) (is_retuned b) n.event.what) ns
 agree_drumless a b [] h = tt
 agree_drumless a b (n ∷ ns) h = (by_what n.event.what h.0, agree_drumless a b ns h.1)
   where
@@ -295,7 +309,8 @@ still_part true true c h = h
 still_part true false c h = refl
 still_part false has c h = refl
 
-agree_on_port : (o : Options) (es : List MidiEvent) (z : ℕ) → AllByRecursion (λ (n : Numbered). AgreeOn (is_part o) (retuned_on o es z) n.event.what) (of_port z es)
+agree_on_port : (o : Options) (es : List MidiEvent) (z : ℕ) → AllByRecursion (λ (n : Numbered). AgreeOn (is_part o) (retuned_on o es z) n.event.what)
+    (of_port z es)
 agree_on_port o es z = elim (cases_Bool (has_drums (events_on z es))) [
   | inl some ↦ subst (λ d. AllByRecursion (λ (n : Numbered). AgreeOn (is_part o) (is_retuned d) n.event.what) (of_port z es))
       (sym (and_true o.keep_drums (has_drums (events_on z es)) some)) (agree_always (is_part o) (of_port z es))
@@ -310,7 +325,8 @@ all_pass part (n ∷ ns) = pick (part n.channel) refl (all_pass part ns)
     rest : List Note
     rest = filter (λ (x : Note). part x.channel) ns
 
-    pick : (b : Bool) → part n.channel ≡ b → AllByRecursion (λ (x : Note). part x.channel ≡ true) rest → AllByRecursion (λ (x : Note). part x.channel ≡ true) (cond b (n ∷ rest) rest)
+    pick : (b : Bool) → part n.channel ≡ b → AllByRecursion (λ (x : Note). part x.channel ≡ true) rest
+        → AllByRecursion (λ (x : Note). part x.channel ≡ true) (cond b (n ∷ rest) rest)
     pick true e g = (e, g)
     pick false e g = g
 
@@ -325,8 +341,10 @@ passed_at part ns i l = of_all (λ (n : Note). part n.channel ≡ true) (filter 
 
 -- ---- a zone of a port
 
-zone_uses : ZonedLaws → (o : Options) (table : Targets) (es : List MidiEvent) (channel : ℕ → Zone → ℕ → Pair → ℕ) → IsPlannedMpe o table es channel → (z : ℕ)
-    → IsMpe o table es (zones_on o table es) (zoned_channel (zones_on o table es) channel) → (i : ℕ) (zone : Zone) → nth i (zones_on o table es z) ≡ Some zone
+zone_uses : ZonedLaws → (o : Options) (table : Targets) (es : List MidiEvent) (channel : ℕ → Zone → ℕ → Pair → ℕ) → IsPlannedMpe o table es channel
+    → (z : ℕ)
+    → IsMpe o table es (zones_on o table es) (zoned_channel (zones_on o table es) channel) → (i : ℕ) (zone : Zone)
+    → nth i (zones_on o table es z) ≡ Some zone
     → IsFewestIn o table es (mpe_output o table (zones_on o table es) (zoned_channel (zones_on o table es) channel) es) z zone
 zone_uses laws o table es channel planned z b i zone stands =
     let zones = zones_on o table es in
@@ -354,19 +372,21 @@ zone_uses laws o table es channel planned z b i zone stands =
     let is : part_channels_read o part es out z ≡ named q part table port (given z) last =
     beside_notes part (retuned_notes whole (after (events_on z es))) (retuned_notes whole (after (events_on z out)))
     ∙ ap (λ ms. beside part ms (channels_of whole z out)) (source_notes o es z whole)
-    ∙ ap (beside part (notes_at whole ns last)) (out_channels laws o table es zones given b z ∙ planned_named q table port runs timed.ascend refl last)
+    ∙ ap (beside part (notes_at whole ns last)) (out_channels laws o table es zones given b z
+    ∙ planned_named q table port runs timed.ascend refl last)
     ∙ part_named q part whole within table port (given z) timed (λ k. aimed_at q whole table ns whole_aimed k)
     (λ k. (named_read q whole table port (given z) timed whole_aimed k k (omega arith)).all) last in
     let counted = laws.counted o part table es z in
-    let same = laws.determined (pairs_on o part table es z) last zone.members (need_of o part table es z).0 have.instant (need_of o part table es z).1 plan.need counted in
+    let same = laws.determined (pairs_on o part table es z) last zone.members (need_of o part table es z).0 have.instant (need_of o part table es z).1
+    plan.need counted in
     let many : length row ≡ zone.members = members_length zone 0 zone.members in
     let of_runs : AreOfRuns o part table es z row have.row (part_channels_read o part es out z) =
     λ j l. (let p : Pair = pair_at q part table port last j in
-      let k : ℕ = began_at part ns last j in
-      let mine : p.part.channel ≡ zone.part = eqb-true p.part.channel zone.part (passed_at part (music_at ns last).notes j l) in
-      ap (λ cs. get_or cs j 0) is ∙ read.each j l
-      ∙ ap (in_its_zone (channel z) k p) (ap (λ c. zone_of c (zones z)) mine ∙ good.found)
-      ∙ plan.given k p mine) in
+    let k : ℕ = began_at part ns last j in
+    let mine : p.part.channel ≡ zone.part = eqb-true p.part.channel zone.part (passed_at part (music_at ns last).notes j l) in
+    ap (λ cs. get_or cs j 0) is ∙ read.each j l
+    ∙ ap (in_its_zone (channel z) k p) (ap (λ c. zone_of c (zones z)) mine ∙ good.found)
+    ∙ plan.given k p mine) in
     record {
       channels = uses_fewest laws.using o part table es z zone.members (need_of o part table es z).1 row have.row (part_channels_read o part es out z)
           parts b.sound (subst (λ n. IsNeedOf o part table es z n (need_of o part table es z).1) (sym same.0) counted)

@@ -1,7 +1,6 @@
 -- How many channels the outputs of the bend and MPE routes use, and that there are no fewer that would do (this project's own).
-use Rattle.std.specs.Prelude.{◌≡◌, ℕ, List, [], ◌∷◌, Bool, nat_eq, if◌then◌else◌, Some, length}
+use Rattle.std.specs.Prelude.{◌≡◌, ℕ, List, [], ◌∷◌, Bool, if◌then◌else◌, Some, length}
 use Rattle.std.specs.List.{AllByRecursion}
-use Rattle.std.specs.Set.{is_member}
 use Rattle.mt_base.specs.Midi.{MidiEvent}
 use Rattle.midi_model.specs.Notes.{Note}
 use Rattle.midi_model.specs.Receiver.{after}

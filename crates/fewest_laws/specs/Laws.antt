@@ -18,5 +18,6 @@ BentUsesFewest = (o : Options) (allowed : ℕ → Bool) (table : Targets) (es : 
 
 -- What MPE writes for a source with a plan for each zone of its ports uses the fewest members of each.
 abbrev pub ZonedUsesFewest : Type 0
-ZonedUsesFewest = (o : Options) (table : Targets) (es : List MidiEvent) (channel : ℕ → Zone → ℕ → Pair → ℕ) → IsPlannedMpe o table es channel → (z : ℕ)
+ZonedUsesFewest = (o : Options) (table : Targets) (es : List MidiEvent) (channel : ℕ → Zone → ℕ → Pair → ℕ) → IsPlannedMpe o table es channel
+    → (z : ℕ)
     → AreFewestIn o table es (mpe_output o table (zones_on o table es) (zoned_channel (zones_on o table es) channel) es) z

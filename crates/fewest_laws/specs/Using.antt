@@ -12,7 +12,8 @@ use Rattle.retune_model.specs.PortNeed.{AreParts, pairs_on, IsNeedOf, notes_on, 
 use Rattle.retune_model.specs.SourceFaults.{IsSound}
 
 -- The notes of a port have these channels, in the order of their note ons, all of them of a row.
-pub record UsesFewest (o : Options) (part : ℕ → Bool) (table : Targets) (es : List MidiEvent) (z need instant : ℕ) (row channels : List ℕ) : Type 0 where
+pub record UsesFewest (o : Options) (part : ℕ → Bool) (table : Targets) (es : List MidiEvent) (z need instant : ℕ) (row channels : List ℕ) :
+    Type 0 where
   -- the greatest number of pairs at one position; the instant is the first that has so many
   pub is_need : IsNeedOf o part table es z need instant
   -- they are different pairs
@@ -38,7 +39,8 @@ AreOfRuns o part table es z row place channels =
 
 -- Runs that take any free place of a row of as many channels as are needed use the fewest.
 abbrev pub RunsUseFewest : Type 0
-RunsUseFewest = (o : Options) (part : ℕ → Bool) (table : Targets) (es : List MidiEvent) (z need instant : ℕ) (row : List ℕ) (place : ℕ → ℕ) (channels : List ℕ)
+RunsUseFewest = (o : Options) (part : ℕ → Bool) (table : Targets) (es : List MidiEvent) (z need instant : ℕ) (row : List ℕ) (place : ℕ → ℕ)
+    (channels : List ℕ)
     → AreParts o part → IsSound o table es → IsNeedOf o part table es z need instant → TakesFreeOn o part table es z need place
     → length row ≡ need → IsDistinct nat_eq row → length channels ≡ notes_on part es z → AreOfRuns o part table es z row place channels
     → UsesFewest o part table es z need instant row channels
