@@ -60,7 +60,8 @@ chains_length channel b zero = refl
 chains_length channel b (suc n) = omega (arith, chains_length channel (suc b) n)
 
 -- what stands at an index
-chains_at : (channel : ℕ → ℕ) (b n i m a : ℕ) → m ≡ i + b → get_or (chains_from channel b n) i None ≡ Some a → (i < n) × (before_on channel m ≡ Some a)
+chains_at : (channel : ℕ → ℕ) (b n i m a : ℕ) → m ≡ i + b → get_or (chains_from channel b n) i None ≡ Some a
+    → (i < n) × (before_on channel m ≡ Some a)
 chains_at channel b zero i m a e h = cc
 chains_at channel b (suc n) zero m a e h = (omega arith, subst (λ (x : ℕ). before_on channel x ≡ Some a) (let f : b ≡ m = omega (arith, e) in f) h)
 chains_at channel b (suc n) (suc i) m a e h =
@@ -76,13 +77,16 @@ start_channels : (ℕ → ℕ) → ℕ → ℕ → List ℕ
 start_channels channel b zero = []
 start_channels channel b (suc n) = firsts channel b (before_on channel b) (start_channels channel (suc b) n)
 
-all_starts : (P : ℕ → Type 0) (channel : ℕ → ℕ) (b n : ℕ) → ((c : ℕ) → b ≤ c → c < b + n → before_on channel c ≡ None → P (channel c)) → AllByRecursion P (start_channels channel b n)
+all_starts : (P : ℕ → Type 0) (channel : ℕ → ℕ) (b n : ℕ) → ((c : ℕ) → b ≤ c → c < b + n → before_on channel c ≡ None → P (channel c))
+    → AllByRecursion P (start_channels channel b n)
 unfolding start_channels firsts
 all_starts P channel b zero h = tt
 all_starts P channel b (suc n) h =
-    let rest : AllByRecursion P (start_channels channel (suc b) n) = all_starts P channel (suc b) n (λ c g l. h c (omega (arith, g)) (omega (arith, l))) in
+    let rest : AllByRecursion P (start_channels channel (suc b) n) =
+    all_starts P channel (suc b) n (λ c g l. h c (omega (arith, g)) (omega (arith, l))) in
     elim (option_cases (before_on channel b)) [
-      | inl e ↦ subst (λ (o : Option ℕ). AllByRecursion P (firsts channel b o (start_channels channel (suc b) n))) (sym e) (h b (omega arith) (omega arith) e, rest)
+      | inl e ↦ subst (λ (o : Option ℕ). AllByRecursion P (firsts channel b o (start_channels channel (suc b) n))) (sym e)
+          (h b (omega arith) (omega arith) e, rest)
       | inr s ↦ subst (λ (o : Option ℕ). AllByRecursion P (firsts channel b o (start_channels channel (suc b) n))) (sym s.1) rest
     ]
 
@@ -117,7 +121,8 @@ start_is_used channel q b j zero e h = h
 start_is_used channel q b j (suc n) e h =
     let first : Bool = nat_eq q (channel j) in
     let more : Bool = is_member nat_eq (map channel (range_with_len (j + 1) n)) q in
-    let rest : is_member nat_eq (start_channels channel (suc b) n) q ≡ true → more ≡ true = start_is_used channel q (suc b) (j + 1) n (omega (arith, e)) in
+    let rest : is_member nat_eq (start_channels channel (suc b) n) q ≡ true → more ≡ true =
+    start_is_used channel q (suc b) (j + 1) n (omega (arith, e)) in
     let P : Option ℕ → Type 0 = λ o. is_member nat_eq (firsts channel b o (start_channels channel (suc b) n)) q ≡ true in
     elim (option_cases (before_on channel b)) [
       | inl f ↦ elim (or_cases (nat_eq q (channel b)) (is_member nat_eq (start_channels channel (suc b) n) q) (subst P f h)) [
@@ -174,7 +179,8 @@ module _ (t : Table) (first last channel : ℕ → ℕ) (runs : AreRuns t first 
         (runs.ordered a b ab bl, g) (omega arith, runs.some_position b bl) e)
   ]
 
-  entry : (b a : ℕ) → get_or (chains_from channel 0 t.runs) b None ≡ Some a → (b < t.runs) × (a < b) × (channel a ≡ channel b) × ((x : ℕ) → a < x → x < b → channel x ≢ channel b)
+  entry : (b a : ℕ) → get_or (chains_from channel 0 t.runs) b None ≡ Some a
+      → (b < t.runs) × (a < b) × (channel a ≡ channel b) × ((x : ℕ) → a < x → x < b → channel x ≢ channel b)
   entry b a h =
       let o = chains_at channel 0 t.runs b b a (omega arith) h in
       let f = found channel (channel b) b a o.1 in

@@ -190,7 +190,8 @@ module _ (rs : List Seen) (start after : List ℕ) (filled : AreFilled rs start 
       (false_from_ne_true (nat_le r.first q.last) (λ h. (let m = leb-true r.first q.last h in absurd (omega (arith, l, m)))))
 
   told_low : (w : ℕ) → w ≤ 391 → told w ≡ Some w
-  told_low w l = ap (λ x. cond x None (Some w)) (false_from_ne_true (nat_eq w 65535) (λ h. (let e = eqb-true w 65535 h in absurd (omega (arith, l, e)))))
+  told_low w l = ap (λ x. cond x None (Some w)) (false_from_ne_true (nat_eq w 65535)
+      (λ h. (let e = eqb-true w 65535 h in absurd (omega (arith, l, e)))))
 
   pub are_low : AreLow t
   are_low = record {

@@ -71,7 +71,8 @@ get_same (y ∷ xs) zero x m = refl
 get_same (y ∷ xs) (suc j) x m = get_same xs j x (omega (arith, m))
 
 pub stay_step : (holds : Pair → Bool) (xs : List (Option Slot)) (going : List (Option Going)) (i : ℕ) (d y : Option Going) → i < length going
-    → length going ≡ length xs → slots_of going ≡ map (stay_if holds) (take i xs) ++ drop i xs → slot_of y ≡ stay_if holds (slot_of (get_or going i d))
+    → length going ≡ length xs → slots_of going ≡ map (stay_if holds) (take i xs) ++ drop i xs
+    → slot_of y ≡ stay_if holds (slot_of (get_or going i d))
     → slots_of (set going i y) ≡ map (stay_if holds) (take (i + 1) xs) ++ drop (i + 1) xs
 stay_step holds xs going i d y l same done is =
     map-set slot_of going i y

@@ -31,7 +31,8 @@ root_near t b u v row_of col_of tree place from slack h few g j = elim (lt_or_ge
 ]
 
 -- a column of the tree comes no nearer
-pub relaxed_zero : (k u reach slack slack' from from' : ℕ) → slack ≡ 0 → IsRelaxed k u reach slack slack' from from' → (slack' ≡ slack) × (from' ≡ from)
+pub relaxed_zero : (k u reach slack slack' from from' : ℕ) → slack ≡ 0 → IsRelaxed k u reach slack slack' from from'
+    → (slack' ≡ slack) × (from' ≡ from)
 relaxed_zero k u reach slack slack' from from' z h = elim h [ inl p ↦ (p.1, p.0) | inr p ↦ absurd (omega (arith, p.2, z)) ]
 
 -- columns from one on, and then from where these end
@@ -57,7 +58,8 @@ pub relaxed_here : (j k u : ℕ) (reach : ℕ → ℕ) (slack slack' from from' 
     ((i : ℕ) → i ≢ j → at slack' i ≡ at slack i) → ((i : ℕ) → i ≢ j → at from' i ≡ at from i) →
     IsRelaxedIn j (j + 1) k u reach slack slack' from from'
 relaxed_here j k u reach slack slack' from from' h slack_still from_still = record {
-  within = λ i g l. subst (λ (x : ℕ). IsRelaxed k u (reach x) (at slack x) (at slack' x) (at from x) (at from' x)) (let e : j ≡ i = omega (arith, g, l) in e) h;
+  within = λ i g l. subst (λ (x : ℕ). IsRelaxed k u (reach x) (at slack x) (at slack' x) (at from x) (at from' x)) (let e : j ≡ i =
+      omega (arith, g, l) in e) h;
   slack_below = λ i l. slack_still i (omega (arith, l));
   slack_above = λ i g. slack_still i (omega (arith, g));
   from_below = λ i l. from_still i (omega (arith, l));

@@ -94,7 +94,8 @@ only_passes f (x ∷ xs) p told m h l = elim (or_cases (is_same_pair p x) (is_me
     none_left [] g = refl
     none_left (y ∷ ys) g = absurd (omega (arith, g))
 
-    has_one : (f : Pair → Bool) (ys : List Pair) (q : Pair) → PairsAreTold → is_member is_same_pair ys q ≡ true → f q ≡ true → 0 < length (filter f ys)
+    has_one : (f : Pair → Bool) (ys : List Pair) (q : Pair) → PairsAreTold → is_member is_same_pair ys q ≡ true
+        → f q ≡ true → 0 < length (filter f ys)
     has_one f [] q told g t = absurd (both_ways false refl g)
     has_one f (y ∷ ys) q told g t = elim (or_cases (is_same_pair q y) (is_member is_same_pair ys q) g) [
       | inl here ↦ (let e : f y ≡ true = ap f (sym ((told q y).0 here)) ∙ t in rw e (omega arith))
@@ -118,7 +119,8 @@ pub member_passes : (f : Pair → Bool) (xs : List Pair) (p : Pair) → PairsAre
     → is_member is_same_pair (filter f xs) p ≡ true
 member_passes f [] p told m h = m
 member_passes f (x ∷ xs) p told m h = elim (or_cases (is_same_pair p x) (is_member is_same_pair xs p) m) [
-  | inl here ↦ (let e : f x ≡ true = ap f (sym ((told p x).0 here)) ∙ h in rw e (or_left (is_same_pair p x) (is_member is_same_pair (filter f xs) p) here))
+  | inl here ↦ (let e : f x ≡ true = ap f (sym ((told p x).0 here)) ∙ h in
+      rw e (or_left (is_same_pair p x) (is_member is_same_pair (filter f xs) p) here))
   | inr there ↦ more (f x) (member_passes f xs p told there h)
 ]
   where
@@ -265,7 +267,8 @@ module _ (at : ℕ → List Pair) (last : ℕ) where
     ]
 
 -- the run of a pair at a position
-pub since_first : (at : ℕ → List Pair) (last : ℕ) (s : Run) → IsRun at last s → (j : ℕ) → s.first ≤ j → j ≤ s.last → since is_same_pair at s.pair j ≡ s.first
+pub since_first : (at : ℕ → List Pair) (last : ℕ) (s : Run) → IsRun at last s → (j : ℕ) → s.first ≤ j → j ≤ s.last
+    → since is_same_pair at s.pair j ≡ s.first
 since_first at last s is zero l m = (let f = is.first in absurd (omega (arith, l, f)))
 since_first at last s is (suc j) l m = elim (cases_lt j s.first) [
   | inl low ↦ (let f = is.first in

@@ -45,7 +45,8 @@ unfolding alone
 alone_is t ahead b j bl = let h : weight t t.runs j ≤ weight t b j + over (t.runs - b) = reaches t ahead b j bl in omega (arith, h)
 
 -- a step from a run to a later one, and the way on to the end
-step_on : (t : Table) → IsAhead t → (a b c : ℕ) → a < t.runs → b < t.runs → t.after a b ≡ Some c → weight t b a + over (t.runs - b) ≡ c + weight t t.runs a
+step_on : (t : Table) → IsAhead t → (a b c : ℕ) → a < t.runs → b < t.runs → t.after a b ≡ Some c
+    → weight t b a + over (t.runs - b) ≡ c + weight t t.runs a
 step_on t ahead a b c al bl s =
     let early : a < b = ahead.earlier a b c s in
     let x : weight t b a ≡ c + over (b - 1 - a) = weight_run t b a al bl ∙ behind_other t b a (omega (arith, early)) ∙ ap (step (b - 1 - a)) s in
@@ -92,13 +93,16 @@ module _ (t : Table) (ahead : IsAhead t) (u v : List ℕ) (row_of : List (Option
     own : (b c : ℕ) → b < t.runs → c < t.runs → at (take t.runs col_of) b ≡ at (take t.runs col_of) c → b ≡ c
     own b c bl cl e =
         let same : at col_of b ≡ at col_of c = sym (front col_of b bl) ∙ e ∙ front col_of c cl in
-        some_same b c (sym (m.of_row b (omega (arith, bl))).1 ∙ subst (λ (x : ℕ). row_at row_of x ≡ Some c) (sym same) (m.of_row c (omega (arith, cl))).1)
+        some_same b c (sym (m.of_row b (omega (arith, bl))).1
+        ∙ subst (λ (x : ℕ). row_at row_of x ≡ Some c) (sym same) (m.of_row c (omega (arith, cl))).1)
 
     tight : (b : ℕ) → b < t.runs → at u' b ≡ alone t b (at col_of b) + at v' (at col_of b)
     tight b bl =
         let e : at u b ≡ weight t b (at col_of b) + at v (at col_of b) = m.tight b (omega (arith, bl)) in
-        let f : at v' (at col_of b) + least ≡ weight t t.runs (at col_of b) + at v (at col_of b) = columns (at col_of b) (m.of_row b (omega (arith, bl))).0 in
-        let g : alone t b (at col_of b) + weight t t.runs (at col_of b) ≡ weight t b (at col_of b) + over (t.runs - b) = alone_is t ahead b (at col_of b) bl in
+        let f : at v' (at col_of b) + least ≡ weight t t.runs (at col_of b) + at v (at col_of b) =
+        columns (at col_of b) (m.of_row b (omega (arith, bl))).0 in
+        let g : alone t b (at col_of b) + weight t t.runs (at col_of b) ≡ weight t b (at col_of b) + over (t.runs - b) =
+        alone_is t ahead b (at col_of b) bl in
         omega (arith, e, f, g, rows b bl)
 
     unused : (j : ℕ) → ((b : ℕ) → b < t.runs → at (take t.runs col_of) b ≢ j) → at v' j ≡ 0

@@ -249,7 +249,8 @@ module _ (o : Options) (table : Targets) (es : List MidiEvent) (channels : ℕ �
   keep_found sounds needs k (None ∷ xs) rs f h = keep_found sounds needs k xs rs f (λ i x e. h (suc i) x e)
   keep_found sounds needs k (Some x ∷ xs) rs f h = pick (sounds x.pair) (λ ss g. keep_found sounds needs k xs ss g (λ i y e. h (suc i) y e))
     where
-      pick : (t : Bool) → ((ss : List Seen) → AreFound o table es channels z k k ss → AreFound o table es channels z k k (keep_runs sounds needs xs ss))
+      pick : (t : Bool) → ((ss : List Seen) → AreFound o table es channels z k k ss
+          → AreFound o table es channels z k k (keep_runs sounds needs xs ss))
           → AreFound o table es channels z k k (keep_runs sounds needs xs (cond t rs (change rs x.run (left_as (needs x.pair)))))
       pick true more = more rs f
       pick false more = more (change rs x.run (left_as (needs x.pair))) (left_found k rs x (needs x.pair) f (h 0 x refl))

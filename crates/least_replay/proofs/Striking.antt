@@ -63,7 +63,8 @@ count_is : (o : Options) (es : List MidiEvent) → count_begun o es ≡ length (
 count_is o [] = refl
 count_is o (e ∷ es) = pick (begins_note (is_part o) e.what) (count_is o es)
   where
-    pick : (b : Bool) → count_begun o es ≡ length (note_ons o es) → cond b 1 0 + count_begun o es ≡ length (cond b (e ∷ note_ons o es) (note_ons o es))
+    pick : (b : Bool) → count_begun o es ≡ length (note_ons o es)
+        → cond b 1 0 + count_begun o es ≡ length (cond b (e ∷ note_ons o es) (note_ons o es))
     pick true h = omega (arith, h)
     pick false h = omega (arith, h)
 

@@ -33,8 +33,8 @@ pub fn assignment_examples()
         ≡ None ∷ None ∷ Some 1 ∷ Some 0 ∷ [] }
     ensures distinct { distinct_count nat_eq (map (λ b. get_or (5 ∷ 9 ∷ 9 ∷ 5 ∷ []) b 0) (range_with_len 0 4))
         ≡ 2 }
-    ensures places { map (chain_of (None ∷ None ∷ Some 1 ∷ Some 0 ∷ None ∷ Some 2 ∷ [])) (range_with_len 0 6)
-        ≡ 0 ∷ 1 ∷ 1 ∷ 0 ∷ 2 ∷ 1 ∷ [] }
+    ensures places { map (chain_of (None ∷ None ∷ Some 1 ∷ Some 0 ∷ None ∷ Some 2 ∷ []))
+        (range_with_len 0 6) ≡ 0 ∷ 1 ∷ 1 ∷ 0 ∷ 2 ∷ 1 ∷ [] }
 {}
 
 /// Where a certificate is good, no assignment that keeps each run on one channel costs less.

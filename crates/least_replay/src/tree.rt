@@ -20,7 +20,8 @@ fn scan(place: &[u32], slack: &[u32], first: usize, last: usize, best: usize) ->
     ensures within { result < length slack.now }
     ensures outside { at place.now result ≡ 0 }
     ensures no_farther { at slack.now result ≤ at slack.now best }
-    ensures least { (j : ℕ) → first ≤ j → j < last → at place.now j ≡ 0 → at slack.now result ≤ at slack.now j }
+    ensures least { (j : ℕ) → first ≤ j → j < last → at place.now j ≡ 0 →
+        at slack.now result ≤ at slack.now j }
 {
     let mut nearest = best;
     let mut least = slack[best];
@@ -47,7 +48,8 @@ fn nearest(place: &[u32], slack: &[u32], came: usize) -> usize
     requires spare { at place.now (length slack.now - 1) ≡ 0 }
     ensures within { result < length slack.now }
     ensures outside { at place.now result ≡ 0 }
-    ensures least { (j : ℕ) → j < length slack.now → at place.now j ≡ 0 → at slack.now result ≤ at slack.now j }
+    ensures least { (j : ℕ) → j < length slack.now → at place.now j ≡ 0 →
+        at slack.now result ≤ at slack.now j }
 {
     let best = scan(place, slack, 0, came, slack.len() - 1);
     scan(place, slack, came, slack.len(), best)
@@ -86,8 +88,8 @@ fn raise_columns(v: &mut [u32], slack: &mut [u32], place: &[u32], by: u32)
     ensures up { (j : ℕ) → 0 < at place.now j → at v.new j ≡ at v.old j + by }
     ensures still { (j : ℕ) → at place.now j ≡ 0 → at v.new j ≡ at v.old j }
     ensures slack_still { (j : ℕ) → 0 < at place.now j → at slack.new j ≡ at slack.old j }
-    ensures nearer { (j : ℕ) → j < length slack.old → at place.now j ≡ 0 → at slack.new j + by ≡ at slack.old
-        j }
+    ensures nearer { (j : ℕ) → j < length slack.old → at place.now j ≡ 0 →
+        at slack.new j + by ≡ at slack.old j }
 {
     for j in 0..slack.len() {
         v[j] += share(place[j], by, 0);

@@ -23,7 +23,10 @@ loop-run-preserved c =
       after = rows_step (row_by ss) ss i c.loop-run.after.items c.push_row.new.after.items (seen d) l c.loop-run.invariant.after
           c.in_ok-push_row.ensures.row here;
       low = all_step (IsLowRun ss) ss i (seen d) l c.loop-run.invariant.low
-          (record { start = subst (λ n. n ≤ 391) c.cost_at_start-cost.ensures.cost c.cost_at_start-cost.ensures.low; behind = c.in_ok-push_row.ensures.low })
+          (record {
+            start = subst (λ n. n ≤ 391) c.cost_at_start-cost.ensures.cost c.cost_at_start-cost.ensures.low;
+            behind = c.in_ok-push_row.ensures.low;
+          })
           here;
     }
 

@@ -17,7 +17,8 @@ loop-before-preserved c =
     let l : i < length (all_seen runs) = (let m = length-map runs seen in omega (arith, low, m)) in
     let here : seen d ≡ seen_at (all_seen runs) i = ap seen c.before-item.is ∙ sym (seen_there runs i d low) in
     record {
-      row = row_step (λ q. behind_by q r) (all_seen runs) i c.cost_behind.result c.args.after.now.items c.loop-before.after.items c.push.new.self.items
+      row = row_step (λ q. behind_by q r) (all_seen runs) i c.cost_behind.result c.args.after.now.items
+          c.loop-before.after.items c.push.new.self.items
           l c.loop-before.invariant.row c.in_ok-push.ensures.items
           (c.cost_behind.ensures.cost c.requires.start ∙ ap (λ q. behind_by q r) here);
       low = all_step (IsLowBehind r) (all_seen runs) i (seen d) l c.loop-before.invariant.low

@@ -15,7 +15,8 @@ loop-one-preserved g c = record {
       let going = c.args.going.now in
       let i = c.loop-one.one-index in
       let l : i < length going = omega arith in
-      ap (end_runs (is_held o table es) (leaves_now o table es) c.args.last c.args.resets (drop (i + 1) (slots_of going))) (c.end_one.ensures es stands
+      ap (end_runs (is_held o table es) (leaves_now o table es) c.args.last c.args.resets (drop (i + 1) (slots_of going)))
+      (c.end_one.ensures es stands
       ∙ ap (λ x. end_run (is_held o table es) (leaves_now o table es) c.args.last c.args.resets (slot_of x) (all_seen c.loop-one.runs)) c.one-item.is)
       ∙ sym (ended_step (is_held o table es) (leaves_now o table es) c.args.last c.args.resets going i c.one-item.result (all_seen c.loop-one.runs) l)
       ∙ c.loop-one.invariant.done es stands;

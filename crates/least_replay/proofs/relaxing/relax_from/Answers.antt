@@ -11,6 +11,8 @@ loop-j-preserved c = record {
   from_whole = omega arith;
   nearer = relaxed_next c.args.first c.loop-j.j c.args.size c.args.u (λ j. weight (table_of c.args.costs.now) c.args.r j + at c.args.v.now j)
       c.args.slack.now c.loop-j.slack c.relax_one.new.slack c.args.from.now c.loop-j.from c.relax_one.new.from (omega arith) c.loop-j.invariant.nearer
-      (subst (λ (n : ℕ). IsRelaxed c.args.size c.args.u (n + at c.args.v.now c.loop-j.j) (at c.loop-j.slack c.loop-j.j) (at c.relax_one.new.slack c.loop-j.j) (at c.loop-j.from c.loop-j.j) (at c.relax_one.new.from c.loop-j.j)) c.weigh_apart.ensures.value c.relax_one.ensures.relaxed)
+      (subst (λ (n : ℕ). IsRelaxed c.args.size c.args.u (n + at c.args.v.now c.loop-j.j) (at c.loop-j.slack c.loop-j.j)
+      (at c.relax_one.new.slack c.loop-j.j) (at c.loop-j.from c.loop-j.j) (at c.relax_one.new.from c.loop-j.j)) c.weigh_apart.ensures.value
+      c.relax_one.ensures.relaxed)
       c.relax_one.ensures.slack_still c.relax_one.ensures.from_still;
 }

@@ -9,4 +9,9 @@ returns-then-j-runs-clause-value c =
 
 pub returns-else-j-runs-clause-value : goal.returns-else-j-runs-clause-value
 returns-else-j-runs-clause-value c =
-    omega (arith, c.count_over-else-j-runs.ensures, weight_start (table_of c.args.costs.now) c.args.r c.args.j (omega arith), top_end (table_of c.args.costs.now) c.args.r c.requires.end)
+    omega (
+      arith,
+      c.count_over-else-j-runs.ensures,
+      weight_start (table_of c.args.costs.now) c.args.r c.args.j (omega arith),
+      top_end (table_of c.args.costs.now) c.args.r c.requires.end,
+    )

@@ -18,7 +18,8 @@ loop-b-init c =
       v_whole = omega arith;
       rows_whole = omega arith;
       columns_whole = omega arith;
-      paired = subst (λ (n : ℕ). IsPaired (table_of c.args.costs.now) n c.args.u.now c.args.v.now c.leave_out.new.row_of c.leave_out.new.col_of) (sym runs)
+      paired = subst (λ (n : ℕ). IsPaired (table_of c.args.costs.now) n c.args.u.now c.args.v.now c.leave_out.new.row_of c.leave_out.new.col_of)
+          (sym runs)
           (settled (weight (table_of c.args.costs.now)) (top (table_of c.args.costs.now)) (table_of c.args.costs.now).runs _ _ _ _
           (weight_own (table_of c.args.costs.now)) c.requires.u_zero c.requires.v_zero
           (λ j l. c.leave_out.ensures.row j (omega (arith, l, runs)))
@@ -26,7 +27,8 @@ loop-b-init c =
           (λ b l. c.leave_out.ensures.column b (omega (arith, l, runs))));
     }
 
-all_paired : (t : Table) (n : ℕ) (u v : List ℕ) (row_of : List (Option ℕ)) (col_of : List ℕ) → n ≡ t.runs + t.starts → IsPaired t n u v row_of col_of →
+all_paired : (t : Table) (n : ℕ) (u v : List ℕ) (row_of : List (Option ℕ)) (col_of : List ℕ) → n ≡ t.runs + t.starts
+    → IsPaired t n u v row_of col_of →
     IsPaired t (t.runs + t.starts) u v row_of col_of
 all_paired t n u v row_of col_of e m = subst (λ (x : ℕ). IsPaired t x u v row_of col_of) e m
 
@@ -45,7 +47,12 @@ pub lower_rows-requires-clause-room : goal.lower_rows-requires-clause-room
 lower_rows-requires-clause-room c =
     let m = all_paired (table_of c.args.costs.now) _ _ _ _ _ (omega arith) c.loop-b.invariant.paired in
     let runs : c.runs-runs.result ≡ (table_of c.args.costs.now).runs = c.runs-runs.ensures.value in
-    λ b bl. omega (arith, runs, least_run (table_of c.args.costs.now) (ahead c.args.costs.now) _ _ _ _ m c.first_end-least.result c.first_end-least.ensures.none c.first_end-least.ensures.some b (omega (arith, bl, runs)))
+    λ b bl. omega (
+      arith,
+      runs,
+      least_run (table_of c.args.costs.now) (ahead c.args.costs.now) _ _ _ _ m c.first_end-least.result
+          c.first_end-least.ensures.none c.first_end-least.ensures.some b (omega (arith, bl, runs)),
+    )
 
 pub lower_columns-requires-clause-low : goal.lower_columns-requires-clause-low
 lower_columns-requires-clause-low c =
@@ -55,13 +62,16 @@ lower_columns-requires-clause-low c =
 pub lower_columns-requires-clause-room : goal.lower_columns-requires-clause-room
 lower_columns-requires-clause-room c =
     let m = all_paired (table_of c.args.costs.now) _ _ _ _ _ (omega arith) c.loop-b.invariant.paired in
-    λ j jl. least_column (table_of c.args.costs.now) (ahead c.args.costs.now) _ _ _ _ m c.first_end-least.result c.first_end-least.ensures.none c.first_end-least.ensures.some j (omega (arith, jl))
+    λ j jl. least_column (table_of c.args.costs.now) (ahead c.args.costs.now) _ _ _ _ m c.first_end-least.result c.first_end-least.ensures.none
+    c.first_end-least.ensures.some j (omega (arith, jl))
 
 pub returns : goal.returns
 returns c =
     let m = all_paired (table_of c.args.costs.now) _ _ _ _ _ (omega arith) c.loop-b.invariant.paired in
     let runs : c.runs-runs.result ≡ (table_of c.args.costs.now).runs = c.runs-runs.ensures.value in
-    settled_numbers (table_of c.args.costs.now) (ahead c.args.costs.now) _ _ _ _ m c.first_end-least.result c.first_end-least.ensures.none c.first_end-least.ensures.some
+    settled_numbers (table_of c.args.costs.now) (ahead c.args.costs.now) _ _ _ _ m c.first_end-least.result c.first_end-least.ensures.none
+    c.first_end-least.ensures.some
     _ _ (omega arith) (omega arith) (omega arith)
-    (λ b bl. let e : at c.lower_rows.new.u b + c.first_end-least.result ≡ at c.loop-b.u b + over (c.runs-runs.result - b) = c.lower_rows.ensures b (omega (arith, bl, runs)) in omega (arith, e, runs))
+    (λ b bl. let e : at c.lower_rows.new.u b + c.first_end-least.result ≡ at c.loop-b.u b + over (c.runs-runs.result - b) =
+    c.lower_rows.ensures b (omega (arith, bl, runs)) in omega (arith, e, runs))
     (λ j jl. c.lower_columns.ensures j (omega (arith, jl)))

@@ -16,7 +16,8 @@ pub raise-requires-clause-by_low : goal.raise-requires-clause-by_low
 raise-requires-clause-by_low c =
     let t = c.requires.tree in
     let n : ℕ = length c.args.slack.now - 1 in
-    let few : top (table_of c.args.costs.now) c.args.b ≤ 2000000391 = top_low (table_of c.args.costs.now) c.args.costs.now.low c.args.costs.now.matrix.few c.args.b in
+    let few : top (table_of c.args.costs.now) c.args.b ≤ 2000000391 =
+    top_low (table_of c.args.costs.now) c.args.costs.now.low c.args.costs.now.matrix.few c.args.b in
     let low = spare_low (table_of c.args.costs.now) c.args.b (length c.args.slack.now) c.requires.end c.requires.columns in
     let last : at c.args.slack.now n ≤ top (table_of c.args.costs.now) c.args.b = near_low _ _ _ _ _ _ _ _ _ _ _ _ t (low c.args.b (omega arith)) in
     let least : at c.args.slack.now c.nearest-j.result ≤ at c.args.slack.now n =
@@ -25,14 +26,17 @@ raise-requires-clause-by_low c =
 
 pub raise-requires-clause-u_low : goal.raise-requires-clause-u_low
 raise-requires-clause-u_low c = λ r rl.
-    rows_low _ _ _ _ _ _ _ _ _ _ _ _ c.requires.tree 2000000391 (top_low (table_of c.args.costs.now) c.args.costs.now.low c.args.costs.now.matrix.few) r rl
+    rows_low _ _ _ _ _ _ _ _ _ _ _ _ c.requires.tree 2000000391
+    (top_low (table_of c.args.costs.now) c.args.costs.now.low c.args.costs.now.matrix.few) r rl
 
 pub raise-requires-clause-v_low : goal.raise-requires-clause-v_low
-raise-requires-clause-v_low c = low_v _ _ _ _ _ _ _ _ _ _ _ _ c.requires.tree 2000000391 (top_low (table_of c.args.costs.now) c.args.costs.now.low c.args.costs.now.matrix.few)
+raise-requires-clause-v_low c = low_v _ _ _ _ _ _ _ _ _ _ _ _ c.requires.tree 2000000391
+    (top_low (table_of c.args.costs.now) c.args.costs.now.low c.args.costs.now.matrix.few)
 
 pub returns-clause-tree : goal.returns-clause-tree
 returns-clause-tree c =
     let low = spare_low (table_of c.args.costs.now) c.args.b (length c.args.slack.now) c.requires.end c.requires.columns in
     let same : length c.args.slack.now ≡ length c.raise.new.slack = omega arith in
-    subst (λ (n : ℕ). IsTree (weight (table_of c.args.costs.now)) (top (table_of c.args.costs.now)) c.args.b n c.raise.new.u c.raise.new.v c.args.row_of.now c.args.col_of.now c.args.rows.now c.args.place.now c.args.from.now c.raise.new.slack) same
+    subst (λ (n : ℕ). IsTree (weight (table_of c.args.costs.now)) (top (table_of c.args.costs.now)) c.args.b n c.raise.new.u c.raise.new.v
+    c.args.row_of.now c.args.col_of.now c.args.rows.now c.args.place.now c.args.from.now c.raise.new.slack) same
     (raised _ _ _ _ _ _ _ _ _ _ _ _ c.requires.tree _ _ _ _ low c.raise.ensures)
