@@ -1,14 +1,13 @@
 ghost use Rattle.std.specs.Prelude.{◌≡◌, ◌<◌, ℕ, false};
 ghost use Rattle.mt_base.specs.Midi.{view_what};
 ghost use Rattle.midi_model.specs.Sysex.{doing};
-ghost use Rattle.retune_model.specs.SourceFaults.{is_message};
 ghost use Rattle.retune_model.specs.PortOutput.{kept_for};
 ghost use Rattle.retune_model.specs.Routes.{dump_next};
 ghost use Rattle.routes.specs.Device.{resets_all};
 ghost use Rattle.mpe_route.specs.Kept.{begun_in, bend_in, with_bend, without_bends, reset_if};
 
 use mt_base::{Channel, What};
-use mts_msg::is_reset;
+use routes::{is_message, resets};
 
 /// What is kept in mind of each port.
 #[derive(Drop)]
@@ -17,26 +16,6 @@ pub(crate) struct Kept {
     begun: [bool; 256],
     /// The bends that were sent to the members of its zones, at the port's place times 16 and the channel.
     bends: [u16; 4096],
-}
-
-/// Whether an event is a channel message.
-pub(crate) fn is_message(what: &What<'_>) -> bool
-    ensures { result ≡ is_message (view_what what.now) }
-{
-    match *what {
-        What::Message(_) => true,
-        What::Sysex { .. } | What::Meta { .. } => false,
-    }
-}
-
-/// Whether an event is a reset.
-pub(crate) fn resets(what: &What<'_>) -> bool
-    ensures { result ≡ resets_all (view_what what.now) }
-{
-    match what {
-        What::Sysex { lead, bytes } => *lead == 0xf0 && is_reset(bytes),
-        What::Message(_) | What::Meta { .. } => false,
-    }
 }
 
 impl Kept {

@@ -6,7 +6,6 @@
 mod caused;
 mod kept;
 mod laws;
-mod putting;
 mod setup;
 #[cfg(test)]
 mod tests;

@@ -8,7 +8,6 @@ ghost use Rattle.channel_plan.specs.Passing.{AreAsked};
 ghost use Rattle.mpe_route.specs.Planned.{IsPlanOf};
 
 mod cases;
-mod random;
 
 use crate::{translate, zoned_plays_the_same};
 use cases::CASES;
@@ -18,7 +17,6 @@ use kbm_text::Mapping;
 use key_pitch::KeyTable;
 use lifetimes::{Options, Parts, Route};
 use mt_base::Memory;
-use random::RANDOM;
 use retune_model::playable_in_order;
 use routes::puts_are_dealt;
 use scl_text::read_scl;
@@ -195,14 +193,6 @@ fn is_as_wanted(alloc: Global, case: &Case) -> Result<bool, Fail> {
 #[test]
 fn outputs_of_the_mpe_route(rt: HostRuntime) -> Result<(), Fail> {
     for case in CASES {
-        assert!(rt; is_as_wanted(rt.alloc(), &case)?, "{}", case.name);
-    }
-    Ok(())
-}
-
-#[test]
-fn outputs_of_random_sources(rt: HostRuntime) -> Result<(), Fail> {
-    for case in RANDOM {
         assert!(rt; is_as_wanted(rt.alloc(), &case)?, "{}", case.name);
     }
     Ok(())

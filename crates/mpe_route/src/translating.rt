@@ -1,5 +1,5 @@
-ghost use Rattle.std.specs.Prelude.{◌≡◌, ◌≤◌, ◌<◌, [], ℕ, true, ◌&&◌, option_map, OnOk, OnErr};
-ghost use Rattle.mt_base.specs.Midi.{view, view_what};
+ghost use Rattle.std.specs.Prelude.{◌≡◌, ◌≤◌, ◌<◌, [], ℕ, true, option_map, OnOk, OnErr};
+ghost use Rattle.mt_base.specs.Midi.{view};
 ghost use Rattle.midi_model.specs.Sysex.{doing};
 ghost use Rattle.retune_model.specs.Options.{ByMpe};
 ghost use Rattle.retune_model.specs.PortOutput.{kept_for};
@@ -9,7 +9,7 @@ ghost use Rattle.lifetimes.specs.Stands.{Stands, asked, table_in};
 ghost use Rattle.channel_model.specs.MpeOutput.{zones_setup};
 ghost use Rattle.channel_plan.specs.Passing.{AreAsked};
 ghost use Rattle.routes.specs.Putting.{AllMayPut, put_all, IsFront};
-ghost use Rattle.routes.specs.Device.{is_first, resets_all};
+ghost use Rattle.routes.specs.Device.{resets_all};
 ghost use Rattle.mpe_route.specs.Zones.{zones_in, AreSmall};
 ghost use Rattle.mpe_route.specs.Kept.{begun_in, bend_in, bends_after};
 ghost use Rattle.mpe_route.specs.Caused.{caused_by, either};
@@ -17,16 +17,16 @@ ghost use Rattle.mpe_route.specs.Putting.{said_if, passed, block_events};
 ghost use Rattle.mpe_route.specs.Planned.{IsPlanOf, zoned};
 
 use crate::caused::{Played, caused_by, played_if, released};
-use crate::kept::{Kept, is_message, resets};
+use crate::kept::Kept;
 use crate::laws::passing_laws;
-use crate::putting::put_messages;
 use crate::setup::setup;
 use arrayvec::ArrayVec;
 use channel_plan::Plan;
 use event_stream::{EventStream, TrackSet};
 use key_pitch::Aims;
 use lifetimes::{Options, Parts, StepFault};
-use mt_base::{Event, Memory, Msg, What};
+use mt_base::{Event, Memory, Msg};
+use routes::{is_again, is_first, put_messages};
 
 /// Puts the setup of a port's zones at an event's tick into its track. On `Memory` a front of it was put.
 // It is seldom wanted, and its messages stand on its stack: a caller into which it were inlined would
@@ -92,20 +92,6 @@ fn put_caused(
         Some(messages) => put_messages(out, event, messages.as_slice()),
         None => out.put(event),
     }
-}
-
-/// Whether an event is the first channel message.
-fn is_first(begun: bool, what: &What<'_>) -> bool
-    ensures { result ≡ is_first begun (view_what what.now) }
-{
-    !begun && is_message(what)
-}
-
-/// Whether an event is a reset, once a channel message came.
-fn is_again(begun: bool, what: &What<'_>) -> bool
-    ensures { result ≡ (begun && resets_all (view_what what.now)) }
-{
-    begun && resets(what)
 }
 
 /// Puts what an event of a port causes; before it the setup, where it is the first channel message; behind

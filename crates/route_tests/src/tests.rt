@@ -107,6 +107,28 @@ const MPE: Options = Options {
 /// What is asked for on the routes of tuning messages.
 const TOLD: [Options; 2] = [DUMP, LIVE];
 
+const BEND: Options = Options {
+    route: Route::Bend,
+    ..DUMP
+};
+
+const BENT: [Options; 6] = [
+    BEND,
+    Options { tail: 300, ..BEND },
+    Options { range: 12, ..BEND },
+    Options {
+        range: 12,
+        tail: 300,
+        ..BEND
+    },
+    Options {
+        range: 48,
+        tail: 300,
+        ..BEND
+    },
+    Options { range: 96, ..BEND },
+];
+
 const ZONED: [Options; 4] = [
     MPE,
     Options { range: 2, ..MPE },
@@ -132,4 +154,9 @@ fn told_sources_play_the_same(rt: HostRuntime) -> Result<(), Fail> {
 #[test]
 fn zoned_sources_play_the_same(rt: HostRuntime) -> Result<(), Fail> {
     all_alike(&rt, rt.alloc(), &ZONED)
+}
+
+#[test]
+fn bent_sources_play_the_same(rt: HostRuntime) -> Result<(), Fail> {
+    all_alike(&rt, rt.alloc(), &BENT)
 }

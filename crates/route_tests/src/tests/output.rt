@@ -4,7 +4,7 @@ ghost use Rattle.mt_base.specs.Valid.{IsValidEvent};
 ghost use Rattle.midi_model.specs.Merged.{merged};
 ghost use Rattle.midi_model.specs.Order.{AreInOrder};
 ghost use Rattle.midi_model.specs.Writing.{Written};
-ghost use Rattle.retune_model.specs.Options.{ByMpe, bends_notes};
+ghost use Rattle.retune_model.specs.Options.{ByMpe, ByBend, bends_notes};
 ghost use Rattle.retune_model.specs.SourceFaults.{IsFaultless};
 ghost use Rattle.key_pitch.specs.Aims.{by_onset};
 ghost use Rattle.lifetimes.specs.Views.{options_of};
@@ -14,6 +14,7 @@ ghost use Rattle.channel_plan.specs.Layouts.{IsLayoutOf, allows};
 ghost use Rattle.channel_plan.specs.Planned.{IsPlan};
 ghost use Rattle.channel_plan.specs.Refused.{IsTaken};
 ghost use Rattle.mpe_route.specs.Planned.{IsPlanOf};
+ghost use Rattle.route_bend.specs.Bent.{IsPlanOf as IsBentPlanOf};
 
 use channel_plan::{Layout, Plan, PlanFault};
 use event_stream::{EventStream, Merge, TrackSet};
@@ -22,6 +23,7 @@ use lifetimes::{Noted, Options, Parts, Route};
 use mpe_route::zoned_plays_the_same;
 use mt_base::Memory;
 use retune_model::playable_in_order;
+use route_bend::bent_plays_the_same;
 use routes::{puts_are_dealt, routed_is_playable};
 use smf_read::Smf;
 use smf_write::{TrackText, finish};
@@ -145,6 +147,32 @@ fn zoned(
     Ok(out.into_tracks())
 }
 
+/// The tracks of a file's output on bend by a plan of it.
+#[inline(never)]
+fn bent(
+    alloc: Global,
+    table: &KeyTable,
+    options: Options,
+    smf: &Smf<'_>,
+    plan: &Plan,
+) -> Result<Vec<TrackText>, Memory>
+    requires route { (options_of options).route ≡ ByBend }
+    requires some { 1 ≤ options.range }
+    requires high { options.range ≤ 96 }
+    requires program { options.program ≤ 127 }
+    requires plan { IsBentPlanOf (options_of options) (by_onset table.now) (merged smf.now)
+        plan.now }
+    ensures { IfOk result (λ tracks. All (λ (t : Written). t.ended ≡ true) tracks.items) }
+{
+    playable_in_order();
+    puts_are_dealt();
+    bent_plays_the_same();
+    let mut out = TrackSet::new(alloc, smf.tracks())?;
+    let mut parts = Parts::new(alloc, table, options);
+    route_bend::translate(alloc, &mut Merge::new(smf), &mut parts, plan, &mut out)?;
+    Ok(out.into_tracks())
+}
+
 fn are_short(tracks: &Vec<TrackText>) -> bool
     ensures { IsTrue result → All (λ (t : Written). length t.bytes < 2 ^ 32) tracks.now.items }
 {
@@ -176,7 +204,12 @@ pub fn output(
             let plan = planned(alloc, table, options, Layout::Mpe, smf)?;
             zoned(alloc, table, options, smf, &plan)?
         }
-        Route::Bend => return Err("bend".into()),
+        Route::Bend => {
+            // all channels but the tenth
+            let layout = Layout::Bend { allowed: 0xfdff };
+            let plan = planned(alloc, table, options, layout, smf)?;
+            bent(alloc, table, options, smf, &plan)?
+        }
     };
     if tracks.is_empty() || tracks.len() > 1024 || !are_short(&tracks) {
         return Err("too long".into());

@@ -1,0 +1,9 @@
+pub mod Bent
+pub mod Channels
+pub mod Sent
+pub mod Single
+pub mod Standing
+pub mod Turning
+pub mod Preparing
+pub mod Putting
+pub mod Laws
