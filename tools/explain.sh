@@ -32,15 +32,24 @@ while IFS="$(printf '\t')" read -r pattern _ meaning cause remedy; do
     esac
 done <"$docs/faults.tsv"
 
-# The names that the line doesn't have.
+# The names that the line doesn't have. Options stand in any order, each with its value behind it or behind an equals sign.
 scale='' map='' out='' input=''
 while [ $# -gt 0 ]; do
+    name='' value=''
     case $1 in
-        --scale) scale=$2 ;;
-        --map) map=$2 ;;
-        --out) out=$2 ;;
+        --a440 | --audit | --) ;;
+        --*=*) name=${1%%=*} value=${1#*=} ;;
+        --*)
+            name=$1 value=$2
+            [ $# -eq 1 ] || shift
+            ;;
+        *) input=$1 ;;
     esac
-    input=$1
+    case $name in
+        --scale) scale=$value ;;
+        --map) map=$value ;;
+        --out) out=$value ;;
+    esac
     shift
 done
 case $line in
@@ -50,5 +59,5 @@ case $line in
     'mtune: cannot store') unwritten "$out" ;;
     'mtune: too long map' | 'mtune: map line '* | *'not mapped') echo "The mapping is $map." ;;
     *scale*) echo "The scale is $scale." ;;
-    *input*) echo "The input is $input." ;;
+    *input* | *'on mpe'* | *needs*) echo "The input is $input." ;;
 esac

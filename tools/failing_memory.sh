@@ -48,7 +48,8 @@ END
 # Runs it in a new folder, with what is there before.
 run() {
     rm -rf "$room/files" && cp -r "$room/before" "$room/files" && cd "$room/files" || exit 1
-    env "$@" LD_PRELOAD="$room/refusing.so" "$program" --scale e12.scl --a440 --route "$route" --out out.mid in.mid
+    # shellcheck disable=SC2086 # a route with other words
+    env "$@" LD_PRELOAD="$room/refusing.so" "$program" --scale e12.scl --a440 --route $route --out out.mid in.mid
 }
 
 failures=0
@@ -76,7 +77,7 @@ try_each() {
     uniq -c "$room/answers"
 }
 
-for route in dump live; do
+for route in dump 'live --audit' 'bend --tail 10 --audit' 'mpe --audit'; do
     rm -rf "$room/before" && cp -r "$top/crates/mtune/data" "$room/before" || exit 1
     try_each ONLY 'no output yet'
     try_each FROM 'no output yet'

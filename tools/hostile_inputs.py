@@ -14,6 +14,12 @@ MOST_TRACKS = 1_024
 ACCEPTED = "accepted"
 TOO_LONG = "mtune: too long %s"
 
+# what may stand behind options of the command
+RANGES = ("1", "2", "12", "24", "48", "96")
+TAILS = ("0", "1", "60", "480", "100000", "268435455")
+CHANNELS = ("1", "1-16", "2-9", "10", "16", "1-3,5,9-12")
+PROGRAMS = ("0", "1", "127")
+
 EXAMPLES = pathlib.Path(__file__).resolve().parent.parent / "examples"
 SCALES = [path.read_bytes() for path in sorted(EXAMPLES.glob("*.scl"))]
 ONE_STEP = b"one step\n1\n100.0\n"

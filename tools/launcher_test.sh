@@ -99,6 +99,19 @@ ends 3 'mtune: cannot load input'
 explains "The input can't be read."
 explains 'There is no no.mid.'
 
+begin words in another order
+run no.mid --a440 --out="$room/out.mid" --scale=meantone.scl
+ends 3 'mtune: cannot load input'
+explains 'There is no no.mid.'
+run piece.mid --a440 --out="$room/out.mid" --scale=no.scl
+ends 3 'mtune: cannot load scale'
+explains 'There is no no.scl.'
+
+begin more parts than zones
+run --scale meantone.scl --a440 --route mpe --out "$room/out.mid" piece.mid
+ends 2 'mtune: 3 parts on mpe'
+explains 'The input is piece.mid.'
+
 begin a folder as input
 retune .
 ends 3 'mtune: cannot load input'
@@ -156,9 +169,16 @@ begin each line that the program has
 for kind in 1 2 3 4 5 6 7 8 9; do echo "2 mtune: scale line 12 kind $kind"; done >"$room/lines"
 for kind in 1 2 3 4 5 6 7; do echo "2 mtune: map line 12 kind $kind"; done >>"$room/lines"
 for kind in 1 2 3 4 5 6 7 8 9 10 11 12 13; do echo "2 mtune: input byte 12 kind $kind"; done >>"$room/lines"
-for kind in 1 2 5 6 7 8 9 10; do echo "2 mtune: input event 12 tick 480 track 3 kind $kind"; done >>"$room/lines"
+for kind in 1 2 3 5 6 7 8 9 10 11; do echo "2 mtune: input event 12 tick 480 track 3 kind $kind"; done >>"$room/lines"
 cat >>"$room/lines" <<'END'
 1 mtune: usage 1
+1 mtune: usage 2
+1 mtune: usage 3
+2 mtune: input event 12 tick 480 track 3 kind 4 q -341 r 8192
+2 mtune: 3 parts on mpe
+2 mtune: 3 parts on mpe on port 1
+2 mtune: needs 17 channels of 15 at tick 480 position 12
+2 mtune: needs 17 channels of 15 on port 1 at tick 480 position 12
 2 mtune: too long scale
 2 mtune: too long map
 2 mtune: too long input

@@ -55,6 +55,11 @@ is_retuned() {
     ends 0 'route dump' "key 69 to 45 00 00 $error" 'notes 1' 'channels 1' "$error"
     holds "$1" "$room/out.mid"
 }
+is_bent() {
+    ends 0 'route bend' 'key 69 to 69 bend 0 error 0.000 to 0.000' 'notes 1' 'channels 1' 'need 1 tick 0 position 1' 'pair 1 0' \
+        'error 0.000 to 0.000'
+    holds "$1" "$room/bend.mid"
+}
 cannot_store() { ends 3 'mtune: cannot store'; }
 holds() { cmp -s "$1" "$2" || fail "$1 holds something else"; }
 leads() { [ "$(readlink "$1")" = "$2" ] || fail "$1 isn't the link to $2 any more"; }
@@ -92,6 +97,23 @@ live() {
 }
 live 00 >"$room/live.mid"
 live 7f >"$room/live127.mid"
+# The same on bend, on a channel, and on MPE: a registered parameter of a channel, by its last byte, is told before the note.
+told() {
+    cat "$room/header"
+    bytes 4d 54 72 6b 00 00 00 1d 00 "b$1" 65 00 00 64 "$2" 00 06 "$3" 00 65 7f 00 64 7f 00 "9$4" 45 40 83 60 "8$4" 45 40 00 ff 2f 00
+}
+told 0 00 0c 0 >"$room/bend.mid"
+told 2 00 0c 2 >"$room/third.mid"
+told 0 06 01 1 >"$room/mpe.mid"
+# The note on two ports, and on three channels at once.
+{
+    bytes 4d 54 68 64 00 00 00 06 00 01 00 02 01 e0
+    for port in 00 01; do
+        bytes 4d 54 72 6b 00 00 00 12 00 ff 21 01 $port
+        cat "$room/note"
+    done
+} >"$room/ports.mid"
+three_parts() { cat "$room/header"; bytes 4d 54 72 6b 00 00 00 10 00 90 45 40 00 91 45 40 00 92 45 40 00 ff 2f 00; }
 printf 'what was there before\n' >"$room/old"
 
 # ---- names
@@ -129,6 +151,80 @@ begin drums to retune, and another tuning program
 run --scale e12.scl --a440 --route live --drums retune --program 127 --out out.mid in.mid
 ends 0 'route live' 'key 69 to 45 00 00 error 0.000 to 0.000' 'notes 1' 'channels 1' 'error 0.000 to 0.000'
 holds out.mid "$room/live127.mid"
+
+# ---- bends, zones, and the other words
+
+begin the bend route, which is that without a route
+run --scale e12.scl --a440 --out out.mid in.mid
+is_bent out.mid
+has out.mid
+run --scale e12.scl --a440 --route bend --out other.mid in.mid
+is_bent other.mid
+
+begin words in another order
+run in.mid --out=out.mid --a440 --scale=e12.scl
+is_bent out.mid
+
+begin another range
+run --scale e12.scl --a440 --range 2 --out out.mid in.mid
+ends 0 'route bend' 'key 69 to 69 bend 0 error 0.000 to 0.000' 'notes 1' 'channels 1' 'need 1 tick 0 position 1' 'pair 1 0' \
+    'error 0.000 to 0.000'
+holds out.mid "$room/in.mid"
+
+begin a tail, and one channel
+run --scale e12.scl --a440 --tail 480 --channels 3 --out out.mid in.mid
+ends 0 'route bend' 'key 69 to 69 bend 0 error 0.000 to 0.000' 'notes 1' 'channels 1' 'need 1 tick 0 position 1' 'pair 1 0' \
+    'error 0.000 to 0.000'
+holds out.mid "$room/third.mid"
+
+begin an audit
+run --scale e12.scl --a440 --audit --out out.mid in.mid
+ends 0 'route bend' 'key 69 to 69 bend 0 error 0.000 to 0.000' \
+    'note 1 part 1 key 69 channel 1 tick 0 to 480 velocity 64 error 0.000 to 0.000' \
+    'notes 1' 'channels 1' 'need 1 tick 0 position 1' 'pair 1 0' 'error 0.000 to 0.000'
+holds out.mid "$room/bend.mid"
+
+begin a sample
+run --scale e12.scl --a440 --sample 1 --out out.mid none.mid
+ends 0 'route bend' 'key 48 to 48 bend 0 error 0.000 to 0.000' 'key 52 to 52 bend 0 error 0.000 to 0.000' \
+    'key 55 to 55 bend 0 error 0.000 to 0.000' 'notes 3' 'channels 1' 'need 1 tick 0 position 3' 'pair 1 0' 'error 0.000 to 0.000'
+has out.mid
+
+begin the mpe route
+run --scale e12.scl --a440 --route mpe --out out.mid in.mid
+ends 0 'route mpe' 'key 69 to 69 bend 0 error 0.000 to 0.000' 'notes 1' 'channels 1' \
+    'zone lower part 1 need 1 tick 0 position 1' 'pair 1 0' 'error 0.000 to 0.000'
+holds out.mid "$room/mpe.mid"
+
+begin two ports
+cp "$room/ports.mid" in.mid
+run --scale e12.scl --a440 --audit --out out.mid in.mid
+ends 0 'route bend' 'key 69 to 69 bend 0 error 0.000 to 0.000' \
+    'note 1 part 1 port 0 key 69 channel 1 tick 0 to 480 velocity 64 error 0.000 to 0.000' \
+    'note 2 part 1 port 1 key 69 channel 1 tick 0 to 480 velocity 64 error 0.000 to 0.000' \
+    'notes 2' 'channels 2' 'port 0' 'need 1 tick 0 position 2' 'pair 1 0' 'port 1' 'need 1 tick 0 position 4' 'pair 1 0' \
+    'error 0.000 to 0.000'
+
+begin too many channels
+three_parts >in.mid
+run --scale e12.scl --a440 --channels 1-2 --out out.mid in.mid
+ends 2 'mtune: needs 3 channels of 2 at tick 0 position 3'
+has
+
+begin too many parts
+three_parts >in.mid
+run --scale e12.scl --a440 --route mpe --out out.mid in.mid
+ends 2 'mtune: 3 parts on mpe'
+has
+
+begin words that are none
+run --scale e12.scl --route loud --out out.mid in.mid
+ends 1 'mtune: usage 2'
+run --scale e12.scl --route dump --range 12 --out out.mid in.mid
+ends 1 'mtune: usage 3'
+run --scale e12.scl --range 97 --out out.mid in.mid
+ends 1 'mtune: usage 1'
+has
 
 begin an output as input
 cp "$room/out.mid" in.mid

@@ -5,7 +5,8 @@
 #
 # It makes files of 300,000 notes alone and of 200,000 notes with pedals and bends, in 1, 16 and 1,000 tracks, runs both
 # programs on each of them in turn, and prints the medians of their times and, where valgrind is there, how many
-# instructions each takes. It wants python3; a peer that is missing, or that does not take a file, is shown as '-'.
+# instructions each takes. It wants python3; a peer that is missing, or that does not take a file, is shown as '-': so are bend and
+# mpe where the parts of many tracks need too many channels.
 set -eu
 
 here=$(dirname "$(readlink -f "$0")")
@@ -31,7 +32,7 @@ mtune = [f"{top}/crates/mtune/out/mtune", "--scale", f"{top}/examples/meantone.s
 
 def commands(name):
     """What is run on a file, by a name."""
-    peers = {f"mtune {route}": [*mtune, route, "--out", out, name] for route in ("dump", "live")}
+    peers = {f"mtune {route}": [*mtune, route, "--out", out, name] for route in ("dump", "live", "bend", "mpe")}
     return {**peers, "midicopy": ["midicopy", name, out]}
 
 

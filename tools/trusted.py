@@ -14,6 +14,8 @@ import sys
 
 TOP = pathlib.Path(__file__).resolve().parent.parent
 NAME = "mtune_core::run"
+# a crate of at most so many lines has no row of its own
+FEW = 25
 BEGIN, END = "<!-- what run's contract reaches: tools/trusted.py --write -->", "<!-- end of that list -->"
 # where a definition begins, in specs/ and in src/
 SPEC = re.compile(r"(?:(?:abbrev|unfoldable|pub|record|data) )*(?P<name>[^\s(){}]+)(?= *[:({]| .*:)")
@@ -156,15 +158,21 @@ def levels():
 
 
 def table(found):
-    """The list as it stands in README.md: by crates, lowest first."""
+    """The list as it stands in README.md: by crates, lowest first, and then those of few lines in one row."""
     rows, level = {}, levels()
     for file, lines in found.items():
         rows.setdefault(file.crate, []).append((str(file.path.relative_to(TOP / "crates" / file.crate)), lines))
+    counts = {crate: sum(lines for _, lines in files) for crate, files in rows.items()}
+    crates = sorted(rows, key=lambda it: (level[it], it))
+    small = [crate for crate in crates if counts[crate] <= FEW]
     head = f"What the contract of `{NAME}` reaches: {sum(found.values())} lines in {len(found)} files, without empty lines."
     said = [head, "", "| crate | lines | files |", "|---|---|---|"]
-    for crate in sorted(rows, key=lambda it: (level[it], it)):
+    for crate in (it for it in crates if it not in small):
         files = ", ".join(f"`{name}` {lines}" for name, lines in sorted(rows[crate]))
-        said.append(f"| `{crate}` | {sum(it for _, it in rows[crate])} | {files} |")
+        said.append(f"| `{crate}` | {counts[crate]} | {files} |")
+    if small:
+        files = ", ".join(f"`{crate}/{name}` {lines}" for crate in small for name, lines in sorted(rows[crate]))
+        said.append(f"| others | {sum(counts[it] for it in small)} | {files} |")
     return "\n".join(said)
 
 

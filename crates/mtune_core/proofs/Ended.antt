@@ -12,6 +12,7 @@ clash false e f = absurd cc
 abbrev pub MaySay : Counts → Counts → Type 0
 MaySay before now = (now ≡ before) ⊎ (now ≡ one_say before)
 
-pub told_faults : (text : List ℕ) (before now : Outside) → (now ≡ after_say text before) ⊎ AfterFailedSay text before now → MaySay before.faults now.faults
+pub told_faults : (text : List ℕ) (before now : Outside) → (now ≡ after_say text before) ⊎ AfterFailedSay text before now
+    → MaySay before.faults now.faults
 told_faults text before now (inl e) = inl (ap (λ (o : Outside). o.faults) e)
 told_faults text before now (inr f) = inr (ap (λ (o : Outside). o.faults) f.only)

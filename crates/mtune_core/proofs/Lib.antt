@@ -3,8 +3,13 @@ pub mod Put
 pub mod Said
 pub mod Writable
 pub mod PlaysSame
+pub mod Plans
+pub mod Same
+pub mod Fit
 pub mod Channels
 pub mod Surveyed
+pub mod ByPlan
+pub mod Entered
 pub mod Retuned
 pub mod Ended
 pub mod Reach

@@ -47,7 +47,8 @@ with_some : (q : ℤ) (key : Option ℕ) → is_some key ≡ true → is_some (w
 with_some q None h = absurd cc
 with_some q (Some k) h = refl
 
-on_route : (route : Route) (range : ℕ) (b : Bounds) → is_some (tuning_target b) ≡ true → is_some (up_to 127 (nearest_key b.lo)) ≡ true → has_target route range b ≡ true
+on_route : (route : Route) (range : ℕ) (b : Bounds) → is_some (tuning_target b) ≡ true → is_some (up_to 127 (nearest_key b.lo)) ≡ true
+    → has_target route range b ≡ true
 on_route ByDump range b step key = step
 on_route ByLive range b step key = step
 on_route ByBend range b step key = with_some _ (up_to 127 (nearest_key b.lo)) key
@@ -66,7 +67,8 @@ bounds_fit ends o p terms ratios b a few is least most =
 abbrev IsTargeted : Options → Option Bounds → Type 0
 IsTargeted o b = (is_some b ≡ true) × (misses_target o b ≡ false)
 
-bound_fits : EndsInOrder → (o : Options) (p : Pitch) (terms : ℕ) (ratios : List (ℕ × ℕ)) (b : Option Bounds) → Bound terms ratios (Some p) b → terms ≤ 1700
+bound_fits : EndsInOrder → (o : Options) (p : Pitch) (terms : ℕ) (ratios : List (ℕ × ℕ)) (b : Option Bounds) → Bound terms ratios (Some p) b
+    → terms ≤ 1700
     → IsPitch p → AtLeast p (pos 0) → AtMost p (pos 406400000000000) → IsTargeted o b
 bound_fits ends o p terms ratios None a few is least most = absurd a
 bound_fits ends o p terms ratios (Some b) a few is least most = (refl, ap not (bounds_fit ends o p terms ratios b a few is least most))
@@ -75,10 +77,12 @@ bound_fits ends o p terms ratios (Some b) a few is least most = (refl, ap not (b
 abbrev pub IsSteady : Scaling → Type 0
 IsSteady s = (key onset : ℕ) → pitch_at s key onset ≡ pitch_at s key 0
 
-key_is_targeted : EndsInOrder → (o : Options) (s : Scaling) (table : Targets) (key onset : ℕ) → IsSteady s → AreFewTerms s → IsTable s table → key ≤ 127 → IsInReach s key → IsTargeted o (table key onset)
+key_is_targeted : EndsInOrder → (o : Options) (s : Scaling) (table : Targets) (key onset : ℕ) → IsSteady s → AreFewTerms s → IsTable s table
+    → key ≤ 127 → IsInReach s key → IsTargeted o (table key onset)
 key_is_targeted ends o s table key onset steady few is_table low r =
     bound_fits ends o r.pitch (terms_at s key onset) (ratios_at_key s key onset) (table key onset)
-    (subst (λ p. Bound (terms_at s key onset) (ratios_at_key s key onset) p (table key onset)) (steady key onset ∙ r.of_key) (is_table.bounds key onset low))
+    (subst (λ p. Bound (terms_at s key onset) (ratios_at_key s key onset) p (table key onset)) (steady key onset ∙ r.of_key)
+    (is_table.bounds key onset low))
     (few key onset low) r.is_pitch r.least r.most
 
 -- ---- faults of keys
@@ -95,7 +99,8 @@ of_key : (kind : Kind) → IsOfKey kind → is_of_key kind ≡ true
 of_key kind (inl e) = ap is_of_key e
 of_key kind (inr e) = ap is_of_key e
 
-either : (b : Bool) (kind : Kind) (later : Option Kind) → is_of_key kind ≡ false → IfSome later (λ k. is_of_key k ≡ false) → IfSome (cond b (Some kind) later) (λ k. is_of_key k ≡ false)
+either : (b : Bool) (kind : Kind) (later : Option Kind) → is_of_key kind ≡ false → IfSome later (λ k. is_of_key k ≡ false)
+    → IfSome (cond b (Some kind) later) (λ k. is_of_key k ≡ false)
 either true kind later h g = h
 either false kind later h g = g
 
@@ -105,19 +110,24 @@ none_of_key [] h = tt
 none_of_key (x ∷ xs) h = either x.1 x.0 (first_that xs) h.0 (none_of_key xs h.1)
 
 -- where the first two tests fail, another holds
-of_others : (z : ℕ) (o : Options) (table : Targets) (t : ℕ) (m after : Music) (ports : Bool) (pairs : List Pair) (msg : Msg) → is_unmapped o table t msg ≡ false → is_out_of_device o table t msg ≡ false
+of_others : (z : ℕ) (o : Options) (table : Targets) (t : ℕ) (m after : Music) (ports : Bool) (pairs : List Pair) (msg : Msg)
+    → is_unmapped o table t msg ≡ false → is_out_of_device o table t msg ≡ false
     → IfSome (first_that (message_tests z o table t m after ports pairs msg)) (λ kind. is_of_key kind ≡ false)
 of_others z o table t m after ports pairs msg mapped inside =
     let tests = message_tests z o table t m after ports pairs msg in
     let rest = drop 2 tests in
-    let skip : first_that tests ≡ first_that rest = ap (λ b. cond b (Some UnmappedKey) (cond (is_out_of_device o table t msg) (Some KeyOutOfDevice) (first_that rest))) mapped ∙ ap (λ b. cond b (Some KeyOutOfDevice) (first_that rest)) inside in
-    subst (λ k. IfSome k (λ kind. is_of_key kind ≡ false)) (sym skip) (none_of_key rest (refl, (refl, (refl, (refl, (refl, (refl, (refl, (refl, (refl, (refl, tt)))))))))))
+    let skip : first_that tests ≡ first_that rest =
+    ap (λ b. cond b (Some UnmappedKey) (cond (is_out_of_device o table t msg) (Some KeyOutOfDevice) (first_that rest))) mapped
+    ∙ ap (λ b. cond b (Some KeyOutOfDevice) (first_that rest)) inside in
+    subst (λ k. IfSome k (λ kind. is_of_key kind ≡ false)) (sym skip)
+    (none_of_key rest (refl, (refl, (refl, (refl, (refl, (refl, (refl, (refl, (refl, (refl, tt)))))))))))
 
 -- each key that an event begins a note on is targeted
 abbrev HasTargets : Options → Targets → MidiEvent → Type 0
 HasTargets o table e = (key : ℕ) → begins_on o key e.what ≡ true → IsTargeted o (table key e.tick)
 
-mapped_there : (o : Options) (table : Targets) (t : ℕ) (msg : Msg) → ((key : ℕ) → begins_on o key (Says msg) ≡ true → IsTargeted o (table key t)) → is_unmapped o table t msg ≡ false
+mapped_there : (o : Options) (table : Targets) (t : ℕ) (msg : Msg) → ((key : ℕ) → begins_on o key (Says msg) ≡ true → IsTargeted o (table key t))
+    → is_unmapped o table t msg ≡ false
 mapped_there o table t (NoteOn c k (suc v)) h = pick (is_part o c) refl
   where
     pick : (b : Bool) → is_part o c ≡ b → (b && not (is_some (table k t))) ≡ false
@@ -125,7 +135,8 @@ mapped_there o table t (NoteOn c k (suc v)) h = pick (is_part o c) refl
     pick false e = refl
 mapped_there o table t msg h = refl
 
-inside_there : (o : Options) (table : Targets) (t : ℕ) (msg : Msg) → ((key : ℕ) → begins_on o key (Says msg) ≡ true → IsTargeted o (table key t)) → is_out_of_device o table t msg ≡ false
+inside_there : (o : Options) (table : Targets) (t : ℕ) (msg : Msg) → ((key : ℕ) → begins_on o key (Says msg) ≡ true → IsTargeted o (table key t))
+    → is_out_of_device o table t msg ≡ false
 inside_there o table t (NoteOn c k (suc v)) h = pick (is_part o c) refl
   where
     pick : (b : Bool) → is_part o c ≡ b → (b && misses_target o (table k t)) ≡ false
@@ -137,7 +148,8 @@ no_key_kind : (z : ℕ) (o : Options) (table : Targets) (m after : Music) (ports
     → IfSome (kind_in z o table e.tick m after ports pairs e.what) (λ kind. is_of_key kind ≡ false)
 no_key_kind z o table m after ports pairs e h = by_what e.what h
   where
-    by_what : (what : MidiWhat) → ((key : ℕ) → begins_on o key what ≡ true → IsTargeted o (table key e.tick)) → IfSome (kind_in z o table e.tick m after ports pairs what) (λ kind. is_of_key kind ≡ false)
+    by_what : (what : MidiWhat) → ((key : ℕ) → begins_on o key what ≡ true → IsTargeted o (table key e.tick))
+        → IfSome (kind_in z o table e.tick m after ports pairs what) (λ kind. is_of_key kind ≡ false)
     by_what (Says msg) g = of_others z o table e.tick m after ports pairs msg (mapped_there o table e.tick msg g) (inside_there o table e.tick msg g)
     by_what (SysexOf lead bytes) g = pick (nat_eq lead 0xf0 && is_tuning bytes)
       where
@@ -150,11 +162,13 @@ no_key_kind z o table m after ports pairs e h = by_what e.what h
         pick true = refl
         pick false = tt
 
-placed_kind : (k : ℕ) (e : MidiEvent) (bend : Kind → Option (ℤ × ℤ)) (kind : Option Kind) (f : Fault) → IfSome kind (λ x. is_of_key x ≡ false) → placed_at k e bend kind ≡ Some f → is_of_key f.kind ≡ false
+placed_kind : (k : ℕ) (e : MidiEvent) (bend : Kind → Option (ℤ × ℤ)) (kind : Option Kind) (f : Fault) → IfSome kind (λ x. is_of_key x ≡ false)
+    → placed_at k e bend kind ≡ Some f → is_of_key f.kind ≡ false
 placed_kind k e bend None f h is = absurd cc
 placed_kind k e bend (Some kind) f h is = let same : kind ≡ f.kind = cc in subst (λ x. is_of_key x ≡ false) same h
 
-not_at : (o : Options) (table : Targets) (es : List MidiEvent) (k : ℕ) (rest : List MidiEvent) (f : Fault) → AllByRecursion (HasTargets o table) rest → fault_of o table es k rest ≡ Some f → is_of_key f.kind ≡ false
+not_at : (o : Options) (table : Targets) (es : List MidiEvent) (k : ℕ) (rest : List MidiEvent) (f : Fault) → AllByRecursion (HasTargets o table) rest
+    → fault_of o table es k rest ≡ Some f → is_of_key f.kind ≡ false
 not_at o table es k [] f h is = absurd cc
 not_at o table es k (e ∷ rest) f h is =
     let port = port_at es (port_of (ports_from all_zero (take k es)) e) in
@@ -192,17 +206,21 @@ key_below o key e valid h = by_what e.what valid.what h
         pick false y e i = absurd cc
     by_what _ g b = absurd cc
 
-have_targets : (o : Options) (table : Targets) (es : List MidiEvent) → AllByRecursion IsValidEvent es → ((key onset : ℕ) → key < 128 → uses_key o key es ≡ true → IsTargeted o (table key onset)) → AllByRecursion (HasTargets o table) es
+have_targets : (o : Options) (table : Targets) (es : List MidiEvent) → AllByRecursion IsValidEvent es
+    → ((key onset : ℕ) → key < 128 → uses_key o key es ≡ true → IsTargeted o (table key onset)) → AllByRecursion (HasTargets o table) es
 have_targets o table [] valid h = tt
 have_targets o table (e ∷ es) valid h = (
   λ key b. h key e.tick (key_below o key e valid.0 b) (or_left (begins_on o key e.what) (uses_key o key es) b),
   have_targets o table es valid.1 (λ key onset low u. h key onset low (or_right (begins_on o key e.what) (uses_key o key es) u)),
 )
 
-pub in_reach_has_no_fault : EndsInOrder → FirstIsOfAnEvent → (s : Scaling) (o : Options) (table : Targets) (es : List MidiEvent) (f : Fault) → AllByRecursion IsValidEvent es → IsSteady s → AreFewTerms s → IsTable s table
+pub in_reach_has_no_fault : EndsInOrder → FirstIsOfAnEvent → (s : Scaling) (o : Options) (table : Targets) (es : List MidiEvent) (f : Fault)
+    → AllByRecursion IsValidEvent es → IsSteady s → AreFewTerms s → IsTable s table
     → AreInReach s o es → HasNoOtherFault o table es → first_fault o table es ≡ Some f → ⊥
 in_reach_has_no_fault ends first s o table es f valid steady few is_table reach other is =
     let at = first o table es f is in
     let k = at.0 in
-    let targets = have_targets o table es valid (λ key onset low u. key_is_targeted ends o s table key onset steady few is_table (omega (arith, low)) (reach key low u)) in
-    clash (is_of_key f.kind) (of_key f.kind (other k f at.1.there at.1.here)) (not_at o table es k (drop k es) f (all_behind (HasTargets o table) k es targets) at.1.here)
+    let targets = have_targets o table es valid (λ key onset low u. key_is_targeted ends o s table key onset steady few is_table (omega (arith, low))
+    (reach key low u)) in
+    clash (is_of_key f.kind) (of_key f.kind (other k f at.1.there at.1.here))
+    (not_at o table es k (drop k es) f (all_behind (HasTargets o table) k es targets) at.1.here)

@@ -19,11 +19,15 @@ made_at (Err e) o name bytes seen limit P held short same h = tt
 
 -- a fault of a content that was loaded
 pub fault_at : (o now : Outside) (which : Which) (name bytes seen : List ℕ) (limit : ℕ) (IsFault : List ℕ → Fault → Type 0) (e : Fault)
-    → IsHeld o name bytes → length bytes ≤ limit → seen ≡ bytes → now ≡ after_load which o → IsFault seen e → ContentCause which name limit IsFault o now e
+    → IsHeld o name bytes → length bytes ≤ limit → seen ≡ bytes → now ≡ after_load which o → IsFault seen e
+    → ContentCause which name limit IsFault o now e
 fault_at o now which name bytes seen limit IsFault e held short same loaded h =
     inr ((record { bytes = bytes; held = held; short = short }, subst (λ b. IsFault b e) same h), loaded)
 
-pub faults_at : {T : Type 0} (r : Result T Fault) (o now : Outside) (which : Which) (name bytes seen : List ℕ) (limit : ℕ) (IsFault : List ℕ → Fault → Type 0)
-    → IsHeld o name bytes → length bytes ≤ limit → seen ≡ bytes → now ≡ after_load which o → IfErr r (λ e. IsFault seen e) → IfErr r (λ e. ContentCause which name limit IsFault o now e)
+pub faults_at : {T : Type 0} (r : Result T Fault) (o now : Outside) (which : Which) (name bytes seen : List ℕ) (limit : ℕ)
+    (IsFault : List ℕ → Fault → Type 0)
+    → IsHeld o name bytes → length bytes ≤ limit → seen ≡ bytes → now ≡ after_load which o → IfErr r (λ e. IsFault seen e)
+    → IfErr r (λ e. ContentCause which name limit IsFault o now e)
 faults_at (Ok x) o now which name bytes seen limit IsFault held short same loaded h = tt
-faults_at (Err e) o now which name bytes seen limit IsFault held short same loaded h = fault_at o now which name bytes seen limit IsFault e held short same loaded h
+faults_at (Err e) o now which name bytes seen limit IsFault held short same loaded h =
+    fault_at o now which name bytes seen limit IsFault e held short same loaded h

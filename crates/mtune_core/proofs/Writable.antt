@@ -9,17 +9,11 @@ use Rattle.std.proofs.lemmas.List.Elements.{All-from_get_or}
 use Rattle.mt_base.specs.Midi.{Timed, MidiEvent}
 use Rattle.mt_base.specs.Valid.{IsValidEvent}
 use Rattle.midi_model.specs.FileText.{MidiFile}
-use Rattle.midi_model.specs.Merged.{InOrder, EndsOnce, of_track, IsPlayable, merged, timed}
+use Rattle.midi_model.specs.Merged.{InOrder, EndsOnce, of_track, IsPlayable, timed}
 use Rattle.midi_model.specs.Spelling.{Spells}
 use Rattle.midi_model.specs.Writing.{Written, written, track_bytes, IsWritable, IsWritableFile}
 use Rattle.event_stream.specs.Distributed.{events_in, distributed}
-use Rattle.midi_model.specs.WritingLaws.{WrittenIsSpelt}
-use Rattle.retune_model.specs.Options.{Options}
-use Rattle.retune_model.specs.Faults.{Targets}
-use Rattle.routes.specs.Laws.{RoutedIsPlayable, TracksAreShort}
-use Rattle.routes.specs.Routed.{routed}
-use Rattle.mtune_core.specs.Output.{routed_file}
-use Rattle.mtune_core.specs.OutputLaws.{OutputIsSpelt}
+use Rattle.mtune_core.specs.Output.{with_events, HasShortTracks}
 use Rattle.mtune_core.proofs.Dealt.{length_dealt, get_dealt, each_weaker, each_picked, no_earlier}
 
 -- ---- the tracks of a playable list
@@ -35,7 +29,8 @@ from_start : (es : List MidiEvent) → AllByRecursion (λ e. 0 ≤ e.tick) es
 from_start [] = tt
 from_start (e ∷ es) = (omega arith, from_start es)
 
-writable_from : (tick : ℕ) (es : List MidiEvent) → AllByRecursion (λ e. IsValidEvent e) es → InOrder es → EndsOnce es → AllByRecursion (λ e. tick ≤ e.tick) es
+writable_from : (tick : ℕ) (es : List MidiEvent) → AllByRecursion (λ e. IsValidEvent e) es → InOrder es → EndsOnce es
+    → AllByRecursion (λ e. tick ≤ e.tick) es
     → IsWritable tick (map timed es)
 writable_from tick [] valid order ended late = absurd ended
 writable_from tick (e ∷ []) valid order ended late = (late.0, valid.0.tick, valid.0.what, inl (ended, refl))
@@ -44,7 +39,8 @@ writable_from tick (e ∷ f ∷ es) valid order ended late =
     (late.0, valid.0.tick, valid.0.what, inr (ended.0, writable_from e.tick (f ∷ es) valid.1 order.1 ended.1 later))
 
 pub writable_track : (n t : ℕ) (es : List MidiEvent) → IsPlayable n es → t < n → IsWritable 0 (events_in t es)
-writable_track n t es h lt = writable_from 0 (of_track t es) (each_picked _ _ es h.valid) (picked_in_order _ es h.in_order) (h.ended t lt) (from_start (of_track t es))
+writable_track n t es h lt = writable_from 0 (of_track t es) (each_picked _ _ es h.valid) (picked_in_order _ es h.in_order) (h.ended t lt)
+    (from_start (of_track t es))
 
 pub all_writable : (n : ℕ) (es : List MidiEvent) → IsPlayable n es → All (IsWritable 0) (distributed n es)
 all_writable n es h = All-from_get_or (IsWritable 0) (distributed n es) [] (λ i lt.
@@ -53,9 +49,11 @@ all_writable n es h = All-from_get_or (IsWritable 0) (distributed n es) [] (λ i
 
 -- ---- their lengths
 
-short_tracks : (ts : List (List Timed)) → All (λ (w : Written). length w.bytes < 2 ^ 32) (map written ts) → All (λ (es : List Timed). length (track_bytes es) < 2 ^ 32) ts
+short_tracks : (ts : List (List Timed)) → All (λ (w : Written). length w.bytes < 2 ^ 32) (map written ts)
+    → All (λ (es : List Timed). length (track_bytes es) < 2 ^ 32) ts
 short_tracks ts h = All-from_get_or (λ (es : List Timed). length (track_bytes es) < 2 ^ 32) ts [] (λ i lt.
-    subst (λ (w : Written). length w.bytes < 2 ^ 32) (get_or-map written ts i [] (written []) lt) (h i (written []) (omega (arith, lt, length-map ts written))))
+    subst (λ (w : Written). length w.bytes < 2 ^ 32) (get_or-map written ts i [] (written []) lt)
+    (h i (written []) (omega (arith, lt, length-map ts written))))
 
 -- ---- the division
 
@@ -83,34 +81,24 @@ division_below bytes source is h =
     let content = subst (AllByRecursion (λ (b : ℕ). b < 256)) fields.parts (all_back front.size_bytes is.fields behind_type) in
     let behind_format = all_back fields.format_bytes (fields.tracks_bytes ++ (fields.division_bytes ++ fields.more)) content in
     let behind_tracks = all_back fields.tracks_bytes (fields.division_bytes ++ fields.more) behind_format in
-    two_bytes fields.division_bytes source.division fields.is_division.len fields.is_division.value (all_front fields.division_bytes fields.more behind_tracks)
+    two_bytes fields.division_bytes source.division fields.is_division.len fields.is_division.value
+    (all_front fields.division_bytes fields.more behind_tracks)
 
 -- ---- the file
 
--- What the output rests on, as the contracts of the crates below have it.
-pub record SpeltLaws : Type 0 where
-  pub short : TracksAreShort
-  pub playable : RoutedIsPlayable
-  pub spelt : WrittenIsSpelt
-
-routed_is_written : SpeltLaws → (bytes : List ℕ) (source : MidiFile) (o : Options) (table : Targets) → Spells bytes source → length bytes ≤ 4194304 → source.division < 2 ^ 16
-    → IsPlayable (length source.tracks) (merged source) → o.program ≤ 127 → IsWritableFile (routed_file o table source)
-routed_is_written laws bytes source o table is few division plays program =
+-- Events that can be written as a file like a source make one.
+pub events_are_written : (bytes : List ℕ) (source : MidiFile) (es : List MidiEvent) → Spells bytes source → source.division < 2 ^ 16
+    → IsPlayable (length source.tracks) es → HasShortTracks (with_events source es) → IsWritableFile (with_events source es)
+events_are_written bytes source es is division playable short =
     let n = length source.tracks in
-    let es = routed o table (merged source) in
     let count : length (distributed n es) ≡ n = length_dealt 0 n es in
     let fields = is.are_fields in
     record {
-      tracks = all_writable n es (laws.playable n o table (merged source) program plays);
-      short = short_tracks (distributed n es) (laws.short bytes source o table is few);
+      tracks = all_writable n es playable;
+      short = short_tracks (distributed n es) short;
       one_or_more = omega (arith, count, fields.one_or_more);
       few = omega (arith, count, fields.few);
       format_0_or_1 = fields.format_0_or_1;
       one_in_0 = λ zero. count ∙ fields.one_in_0 zero;
       division = division;
     }
-
--- The bytes of the output spell it.
-pub routed_spells : SpeltLaws → OutputIsSpelt
-routed_spells laws bytes source o table is few division plays plain =
-    laws.spelt (routed_file o table source) (routed_is_written laws bytes source o table is few division plays plain.program)

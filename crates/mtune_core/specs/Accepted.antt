@@ -14,9 +14,10 @@ use Rattle.mtune_files.specs.declared.counts.Counts.{Counts}
 use Rattle.mtune_files.specs.Counts.{Rose, loads_of}
 use Rattle.mtune_files.specs.Names.{Held}
 use Rattle.mtune_files.specs.Outside.{Outside}
-use Rattle.mtune_core.specs.Command.{Command, command_of}
-use Rattle.mtune_core.specs.Contents.{Content}
-use Rattle.mtune_core.specs.Limits.{input_limit}
+use Rattle.channel_model.specs.Refusals.{Fits}
+use Rattle.command_line.specs.Words.{Command, Read, reading_of}
+use Rattle.mtune_core.specs.Asked.{allowed_by}
+use Rattle.mtune_core.specs.Inputs.{Input}
 use Rattle.mtune_core.specs.Report.{uses_key}
 use Rattle.mtune_core.specs.Table.{Tuning, scaling_of}
 
@@ -37,19 +38,21 @@ abbrev pub HasNoOtherFault : Options → Targets → List MidiEvent → Type 0
 HasNoOtherFault o table es = (k : ℕ) (f : Fault) → k < length es → fault_at o table es k ≡ Some f → (f.kind ≡ UnmappedKey) ⊎ (f.kind ≡ KeyOutOfDevice)
 
 -- The words are those of a command, and it is told what is held. Its scale and its mapping are read, and give each key a pitch of
--- few enough terms. At the input's name stand bytes that spell a file. The scale pitches of its keys are in a device's reach, and
--- its events have no other fault, whichever table of the scale is taken. No content is longer than its limit.
+-- few enough terms. At the input's name stand bytes that spell a file, or the sample is taken. The scale pitches of its keys are in a
+-- device's reach, and its events have no other fault, whichever table of the scale is taken; on bend and MPE it needs no more channels
+-- than it may have. No content is longer than its limit.
 pub record IsAccepted (o : Outside) (words : List (List ℕ)) : Type 0 where
   pub names : Held
   pub command : Command
   pub told : o.held ≡ Some names
-  pub is_command : command_of words ≡ Some command
+  pub is_command : reading_of words ≡ Read command
   pub tuning : Tuning o command
-  pub input : Content o command.input input_limit
+  pub input : Input o command
   pub source : MidiFile
   pub spelled : Spells input.bytes source
   pub in_reach : AreInReach (scaling_of tuning) command.options (merged source)
   pub no_other_fault : (table : Targets) → IsTable (scaling_of tuning) table → HasNoOtherFault command.options table (merged source)
+  pub fits : (table : Targets) → IsTable (scaling_of tuning) table → Fits command.options (allowed_by command) table (merged source)
 
 -- no count of failures rose
 pub record NoneRose (before now : Counts) : Type 0 where

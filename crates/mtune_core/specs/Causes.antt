@@ -9,8 +9,10 @@ use Rattle.lifetimes.specs.declared.fault.StepFault.{StepFault}
 use Rattle.lifetimes.specs.declared.fault.StepFault.TheVariants as step
 use Rattle.key_pitch.specs.declared.fault.TuneFault.{TuneFault}
 use Rattle.key_pitch.specs.declared.fault.TuneFault.TheVariants as tune
+use Rattle.channel_plan.specs.declared.fault.PlanFault.{PlanFault}
+use Rattle.channel_plan.specs.declared.fault.PlanFault.TheVariants as plan
 use Rattle.mtune_core.specs.declared.outcome.Fault.{Fault}
-use Rattle.mtune_core.specs.declared.outcome.Fault.TheVariants.{Scl, Kbm, ReferenceUnmapped, TooManyPeriods, Smf, Source, Memory}
+use Rattle.mtune_core.specs.declared.outcome.Fault.TheVariants.{Scl, Kbm, ReferenceUnmapped, TooManyPeriods, Smf, Source, TooManyParts, TooManyChannels, Memory}
 
 abbrev pub of_memory : Fault
 of_memory = Memory
@@ -34,3 +36,9 @@ of_file smf.Memory = Memory
 abbrev pub of_step : StepFault → Fault
 of_step (step.Source f) = Source f
 of_step step.Memory = Memory
+
+abbrev pub of_plan : PlanFault → Fault
+of_plan (plan.Source f) = Source f
+of_plan (plan.TooManyParts port parts) = TooManyParts port parts
+of_plan (plan.TooManyChannels t) = TooManyChannels t
+of_plan plan.Memory = Memory

@@ -1,14 +1,16 @@
 pub mod Limits
 pub mod Status
 pub mod Causes
-pub mod Command
+pub mod Asked
 pub mod Lines
 pub mod Contents
 pub mod Table
 pub mod Report
 pub mod Output
 pub mod Retuned
+pub mod Inputs
 pub mod Survey
+pub mod Written
 pub mod OutputLaws
 pub mod Made
 pub mod Call

@@ -10,8 +10,9 @@ use Rattle.scl_text.specs.Kinds as scale
 use Rattle.kbm_text.specs.Kinds as map
 use Rattle.mtune_files.specs.declared.which.Which.{Which}
 use Rattle.mtune_files.specs.declared.which.Which.TheVariants as whiches
+use Rattle.plan_report.specs.Texts.{too_many_line, too_many_parts_line}
 use Rattle.mtune_core.specs.declared.outcome.Fault.{Fault}
-use Rattle.mtune_core.specs.declared.outcome.Fault.TheVariants.{Usage, Load, TooLong, Scl, Kbm, ReferenceUnmapped, TooManyPeriods, Smf, Source, Store, Say, Memory}
+use Rattle.mtune_core.specs.declared.outcome.Fault.TheVariants.{Usage, Load, TooLong, Scl, Kbm, ReferenceUnmapped, TooManyPeriods, Smf, Source, TooManyParts, TooManyChannels, Store, Say, Memory}
 
 abbrev pub which_name : Which → List ℕ
 which_name whiches.Scale = codes "scale"
@@ -55,6 +56,8 @@ fault_line (TooManyPeriods key) = codes "mtune: key " ++ decimal key ++ codes " 
 fault_line (Smf offset kind) = codes "mtune: input byte " ++ decimal offset
     ++ codes " kind " ++ decimal (kind_number kind) ++ codes "\n"
 fault_line (Source f) = source_line f
+fault_line (TooManyParts port parts) = too_many_parts_line port parts
+fault_line (TooManyChannels t) = too_many_line t
 fault_line Store = codes "mtune: cannot store\n"
 fault_line Say = []
 fault_line Memory = codes "mtune: out of memory\n"
@@ -70,6 +73,6 @@ route_name ByMpe = codes "mpe"
 abbrev pub route_line : Route → List ℕ
 route_line route = codes "route " ++ route_name route ++ codes "\n"
 
--- the number of retuned notes, and that of their channels
-abbrev pub count_lines : ℕ → ℕ → List ℕ
-count_lines notes channels = (codes "notes " ++ decimal notes ++ codes "\n") ++ (codes "channels " ++ decimal channels ++ codes "\n")
+-- the number of retuned notes
+abbrev pub notes_line : ℕ → List ℕ
+notes_line notes = codes "notes " ++ decimal notes ++ codes "\n"

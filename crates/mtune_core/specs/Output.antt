@@ -1,5 +1,5 @@
--- The output of a source on dump and live.
-use Rattle.std.specs.Prelude.{ℕ, ◌<◌, ◌≤◌, ◌^◌, List, length, map, All}
+-- The output of a source on each route.
+use Rattle.std.specs.Prelude.{ℕ, Bool, ◌<◌, ◌≤◌, ◌^◌, List, length, map, All}
 use Rattle.mt_base.specs.Midi.{MidiEvent}
 use Rattle.midi_model.specs.FileText.{MidiFile}
 use Rattle.midi_model.specs.Merged.{merged, IsPlayable}
@@ -8,6 +8,9 @@ use Rattle.midi_model.specs.Writing.{Written, written}
 use Rattle.event_stream.specs.Distributed.{distributed}
 use Rattle.retune_model.specs.Options.{Options}
 use Rattle.retune_model.specs.Faults.{Targets}
+use Rattle.channel_plan.specs.declared.plan.Plan.{Plan}
+use Rattle.mpe_route.specs.Planned.{zoned}
+use Rattle.route_bend.specs.Bent.{bent}
 use Rattle.routes.specs.Routed.{routed}
 use Rattle.mtune_core.specs.Limits.{input_limit}
 
@@ -19,9 +22,17 @@ with_events source es = record {
   tracks = distributed (length source.tracks) es;
 }
 
--- what a route makes of a source
+-- what dump and live make of a source
 abbrev pub routed_file : Options → Targets → MidiFile → MidiFile
 routed_file o table source = with_events source (routed o table (merged source))
+
+-- what bend makes of it, on the channels of a plan
+abbrev pub bent_file : Options → (ℕ → Bool) → Targets → Plan → MidiFile → MidiFile
+bent_file o allowed table plan source = with_events source (bent o allowed table (merged source) plan)
+
+-- what MPE makes of it, in the zones that the parts need
+abbrev pub zoned_file : Options → Targets → Plan → MidiFile → MidiFile
+zoned_file o table plan source = with_events source (zoned o table (merged source) plan)
 
 -- the events of a source may be played in its tracks
 abbrev pub IsPlayableFile : MidiFile → Type 0

@@ -1,7 +1,7 @@
 -- The exit status of a fault.
 use Rattle.std.specs.Prelude.{ℕ, Option, Some, None}
 use Rattle.mtune_core.specs.declared.outcome.Fault.{Fault}
-use Rattle.mtune_core.specs.declared.outcome.Fault.TheVariants.{Usage, Load, TooLong, Scl, Kbm, ReferenceUnmapped, TooManyPeriods, Smf, Source, Store, Say, Memory}
+use Rattle.mtune_core.specs.declared.outcome.Fault.TheVariants.{Usage, Load, TooLong, Scl, Kbm, ReferenceUnmapped, TooManyPeriods, Smf, Source, TooManyParts, TooManyChannels, Store, Say, Memory}
 
 abbrev pub status_of : Fault → ℕ
 status_of (Usage kind) = 1
@@ -12,6 +12,8 @@ status_of (ReferenceUnmapped key) = 2
 status_of (TooManyPeriods key) = 2
 status_of (Smf offset kind) = 2
 status_of (Source f) = 2
+status_of (TooManyParts port parts) = 2
+status_of (TooManyChannels t) = 2
 status_of (Load which) = 3
 status_of Store = 3
 status_of Say = 3

@@ -16,7 +16,7 @@ use Rattle.mtune_files.specs.declared.counts.Counts.{Counts}
 use Rattle.mtune_files.specs.declared.which.Which.TheVariants.{Scale, Map}
 use Rattle.mtune_core.specs.declared.outcome.Fault.{Fault}
 use Rattle.mtune_core.specs.declared.outcome.Fault.TheVariants.{ReferenceUnmapped, TooManyPeriods, Scl, Kbm, Memory}
-use Rattle.mtune_core.specs.Command.{Command, MapChoice, Named, At440, Standard}
+use Rattle.command_line.specs.Words.{Command, MapChoice, Named, At440, Standard}
 use Rattle.mtune_core.specs.Contents.{At, ContentCause}
 use Rattle.mtune_core.specs.Limits.{text_limit}
 

@@ -2,13 +2,13 @@ ghost use Rattle.std.specs.Prelude.{◌≡◌, IfSome, IfNone, IfErr, OnOk};
 ghost use Rattle.mtune_core.specs.Accepted.{IsAccepted, NoneRose};
 ghost use Rattle.mtune_core.specs.Status.{status_if};
 ghost use Rattle.mtune_core.specs.Call.{IsDone, IsStopped, IsTold, IsRefused};
-ghost use Rattle.mtune_core.specs.Command.{texts};
+ghost use Rattle.command_line.specs.Words.{texts};
 
 use crate::accepted::accepted_has_no_fault;
 use crate::lines::line_of;
 use crate::outcome::{Fault, Outcome, status};
 use crate::preparing::prepare;
-use crate::words::read_words;
+use command_line::{WordsFault, read_words};
 use mtune_files::Files;
 use std::alloc::Global;
 
@@ -19,8 +19,10 @@ fn perform<F: Files>(alloc: Global, words: &[&str], files: &mut F) -> Result<(),
     ensures stopped { IfErr result
         (λ e. IsStopped (F.outside files.old) (F.outside files.new) (texts words.now) e) }
 {
-    let Some(command) = read_words(words) else {
-        return Err(Fault::Usage { kind: 1 });
+    let command = match read_words(alloc, words) {
+        Ok(command) => command,
+        Err(WordsFault::Usage { kind }) => return Err(Fault::Usage { kind }),
+        Err(WordsFault::Memory) => return Err(Fault::Memory),
     };
     let made = prepare(alloc, &command, files)?;
     if files.store(command.out, &made.output).is_err() {

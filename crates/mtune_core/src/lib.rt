@@ -2,18 +2,22 @@
 #![tactic(auto)]
 
 mod accepted;
+mod audited;
 mod call;
+mod counting;
 mod laws;
 mod lines;
 mod loading;
+mod made;
 mod outcome;
+mod plain;
+mod planned;
 mod preparing;
 mod reading;
 mod reporting;
 mod retuning;
 mod survey;
 mod table;
-mod words;
 
 pub use call::run;
 pub use outcome::{Fault, Outcome};

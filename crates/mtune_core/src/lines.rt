@@ -2,13 +2,10 @@ ghost use Rattle.std.specs.Prelude.{◌≡◌, ◌≤◌, ◌++◌, ◌+◌, len
 ghost use Rattle.mtune_core.specs.Lines.{fault_line, which_name, source_kind_number, bend_text, source_line};
 
 use crate::outcome::Fault;
-use arrayvec::ArrayString;
 use itoa::Buffer;
 use lifetimes::{SourceFault, SourceKind};
 use mtune_files::Which;
-
-/// Room for each line of a fault.
-pub type Line = ArrayString<128>;
+use plan_report::{Line, too_many_line, too_many_parts_line};
 
 /// Appends a text and a number.
 fn push(line: &mut Line, text: &str, number: u32)
@@ -168,6 +165,8 @@ pub fn line_of(fault: &Fault) -> Line
             u32::from(kind.number()),
         ),
         Fault::Source(fault) => about_event(fault),
+        Fault::TooManyParts { port, parts } => too_many_parts_line(*port, *parts),
+        Fault::TooManyChannels(fault) => too_many_line(fault),
         Fault::Store => plain("mtune: cannot store\n"),
         Fault::Say => Line::new(),
         Fault::Memory => plain("mtune: out of memory\n"),

@@ -1,7 +1,8 @@
 ghost use Rattle.std.specs.Prelude.{◌≡◌};
 ghost use Rattle.mtune_core.specs.Status.{status_of};
-ghost use Rattle.mtune_core.specs.Causes.{of_memory, of_scale, of_mapping, of_tuning, of_file, of_step};
+ghost use Rattle.mtune_core.specs.Causes.{of_memory, of_scale, of_mapping, of_tuning, of_file, of_step, of_plan};
 
+use channel_plan::{PlanFault, TooMany};
 use kbm_text::{KbmFault, KbmKind};
 use key_pitch::TuneFault;
 use lifetimes::{SourceFault, StepFault};
@@ -12,16 +13,17 @@ use scl_text::{SclFault, SclKind};
 use smf_read::SmfFault;
 
 /// How a call of `run` ended: status 0 without a fault, or the status of its fault.
-#[derive(Debug, PartialEq, Eq, Drop)]
+#[derive(Debug, Drop)]
 pub struct Outcome {
     pub status: u8,
     pub fault: Option<Fault>,
 }
 
 /// Why nothing was retuned; after `Say`, why nothing was reported.
-#[derive(Debug, PartialEq, Eq, Drop)]
+#[derive(Debug, Drop)]
 pub enum Fault {
-    /// The words aren't those of the command.
+    /// The words aren't those of the command: 1 where they aren't taken, 2 where a text isn't one of those
+    /// listed, 3 where an option doesn't go with the rest.
     Usage { kind: u8 },
     Load { which: Which },
     TooLong { which: Which },
@@ -32,6 +34,10 @@ pub enum Fault {
     Smf { offset: u32, kind: SmfKind },
     /// What the input may not hold.
     Source(SourceFault),
+    /// More parts of a port have notes than MPE has zones.
+    TooManyParts { port: u8, parts: u8 },
+    /// A port, or a zone of it, needs more channels than it may have.
+    TooManyChannels(TooMany),
     Store,
     Say,
     Memory,
@@ -49,7 +55,9 @@ pub fn status(fault: &Fault) -> u8
         | Fault::ReferenceUnmapped { .. }
         | Fault::TooManyPeriods { .. }
         | Fault::Smf { .. }
-        | Fault::Source(_) => 2,
+        | Fault::Source(_)
+        | Fault::TooManyParts { .. }
+        | Fault::TooManyChannels(_) => 2,
         Fault::Load { .. } | Fault::Store | Fault::Say => 3,
         Fault::Memory => 4,
     }
@@ -114,6 +122,19 @@ impl From<StepFault> for Fault {
         match fault {
             StepFault::Source(fault) => Fault::Source(fault),
             StepFault::Memory => Fault::Memory,
+        }
+    }
+}
+
+impl From<PlanFault> for Fault {
+    ghost from_gives = { λ fault given. given ≡ of_plan fault };
+
+    fn from(fault: PlanFault) -> Fault {
+        match fault {
+            PlanFault::Source(fault) => Fault::Source(fault),
+            PlanFault::TooManyParts { port, parts } => Fault::TooManyParts { port, parts },
+            PlanFault::TooManyChannels(fault) => Fault::TooManyChannels(fault),
+            PlanFault::Memory => Fault::Memory,
         }
     }
 }

@@ -1,25 +1,28 @@
-ghost use Rattle.std.specs.Prelude.{◌≡◌, IfOk, IfErr, OnOk};
+ghost use Rattle.std.specs.Prelude.{◌≡◌, ◌≤◌, length, IfOk, IfErr, OnOk};
 ghost use Rattle.key_pitch.specs.Aims.{by_onset};
-ghost use Rattle.lifetimes.specs.Views.{options_of};
 ghost use Rattle.mtune_files.specs.Outside.{after_load};
+ghost use Rattle.mtune_files.specs.Sample.{sample_bytes};
 ghost use Rattle.mtune_core.specs.Call.{IsPrepared, CommandCause, after_loads};
-ghost use Rattle.mtune_core.specs.Command.{IsPlain, Named, view_choice, view_command};
-ghost use Rattle.mtune_core.specs.Contents.{ContentCause};
+ghost use Rattle.command_line.specs.Words.{Named, view_choice, view_command};
+ghost use Rattle.mtune_core.specs.Asked.{AreInRange, IsFit};
+ghost use Rattle.mtune_core.specs.Contents.{At, ContentCause};
+ghost use Rattle.mtune_core.specs.Inputs.{SampleCause, InputStops, after_input};
 ghost use Rattle.mtune_core.specs.Limits.{text_limit, input_limit};
-ghost use Rattle.mtune_core.specs.Made.{MadeFrom};
+ghost use Rattle.mtune_core.specs.Made.{MadeOf, MadeFrom};
 ghost use Rattle.mtune_core.specs.Retuned.{InputCause};
 ghost use Rattle.mtune_core.specs.Table.{IsScaleAt, IsMappingAt, ScaleCause, MapCause, MappingCause, TableFrom, TableCause, after_mapping, after_texts};
 
 use crate::loading::{INPUT_LIMIT, TEXT_LIMIT, load};
+use crate::made::Made;
 use crate::outcome::Fault;
 use crate::reading::{read_mapping, read_scale};
-use crate::retuning::{Made, retuned};
+use crate::retuning::retuned;
 use crate::table::key_table;
-use crate::words::{Command, MapChoice};
+use command_line::{Command, MapChoice};
 use kbm_text::Mapping;
 use key_pitch::KeyTable;
-use lifetimes::Options;
-use mtune_files::{Files, Which};
+use midi_model::file_laws;
+use mtune_files::{Files, Which, sample};
 use scl_text::Scale;
 use std::alloc::Global;
 
@@ -85,29 +88,72 @@ fn load_table<F: Files>(
     key_table(&scale, &mapping)
 }
 
-/// What is made of the input at a name, with a table.
+/// What is made of the input at a command's name for it, with a table.
 fn load_input<F: Files>(
     alloc: Global,
+    command: &Command<'_>,
     files: &mut F,
-    name: &str,
-    options: Options,
     table: &KeyTable,
 ) -> Result<Made, Fault>
-    requires { IsPlain (options_of options) }
-    ensures made { IfOk result (λ made. MadeFrom (F.outside files.old) name.now (options_of options)
-        (by_onset table.now) made.output.items made.report.items) }
+    requires range { AreInRange (view_command command.now).options }
+    ensures made { IfOk result (λ made. At (F.outside files.old) (view_command command.now).input input_limit
+        (λ input. MadeOf (view_command command.now) (by_onset table.now) input
+        made.output.items made.report.items)) }
     ensures loaded { OnOk result
         (F.outside files.new ≡ after_load Which.Input (F.outside files.old)) }
-    ensures cause { IfErr result (λ e. ContentCause Which.Input name.now input_limit
-        (InputCause (options_of options) (by_onset table.now)) (F.outside files.old) (F.outside files.new) e) }
+    ensures cause { IfErr result (λ e. ContentCause Which.Input (view_command command.now).input input_limit
+        (InputCause (view_command command.now) (by_onset table.now))
+        (F.outside files.old) (F.outside files.new) e) }
 {
-    let input = load(alloc, files, Which::Input, name, INPUT_LIMIT)?;
-    retuned(alloc, options, table, &input)
+    let input = load(alloc, files, Which::Input, command.input, INPUT_LIMIT)?;
+    retuned(alloc, command, table, &input)
+}
+
+/// What is made of a sample of so many chords, with a table.
+fn make_sample(
+    alloc: Global,
+    command: &Command<'_>,
+    chords: u32,
+    table: &KeyTable,
+) -> Result<Made, Fault>
+    requires range { AreInRange (view_command command.now).options }
+    requires some { 1 ≤ chords }
+    requires few { chords ≤ 100000 }
+    ensures made { IfOk result (λ made. MadeOf (view_command command.now) (by_onset table.now)
+        (sample_bytes chords) made.output.items made.report.items) }
+    ensures short { OnOk result (length (sample_bytes chords) ≤ input_limit) }
+    ensures cause { IfErr result (λ e. SampleCause (view_command command.now) (by_onset table.now)
+        (sample_bytes chords) e) }
+{
+    file_laws();
+    let bytes = sample(alloc, chords)?;
+    retuned(alloc, command, table, &bytes)
+}
+
+/// What is made of the input of a command, with a table.
+fn make<F: Files>(
+    alloc: Global,
+    command: &Command<'_>,
+    files: &mut F,
+    table: &KeyTable,
+) -> Result<Made, Fault>
+    requires { IsFit (view_command command.now) }
+    ensures made { IfOk result (λ made. MadeFrom (F.outside files.old) (view_command command.now)
+        (by_onset table.now) made.output.items made.report.items) }
+    ensures loaded { OnOk result
+        (F.outside files.new ≡ after_input (view_command command.now) (F.outside files.old)) }
+    ensures cause { IfErr result (λ e. InputStops (view_command command.now).sample (view_command command.now)
+        (by_onset table.now) (F.outside files.old) (F.outside files.new) e) }
+{
+    match command.sample {
+        Some(chords) => make_sample(alloc, command, chords, table),
+        None => load_input(alloc, command, files, table),
+    }
 }
 
 /// All that comes before the store.
 pub fn prepare<F: Files>(alloc: Global, command: &Command<'_>, files: &mut F) -> Result<Made, Fault>
-    requires { IsPlain (view_command command.now).options }
+    requires { IsFit (view_command command.now) }
     ensures made { IfOk result (λ made. IsPrepared (F.outside files.old) (view_command command.now)
         made.output.items made.report.items) }
     ensures loaded { OnOk result (F.outside files.new
@@ -116,5 +162,5 @@ pub fn prepare<F: Files>(alloc: Global, command: &Command<'_>, files: &mut F) ->
         (F.outside files.old) (F.outside files.new) e) }
 {
     let table = load_table(alloc, command, files)?;
-    load_input(alloc, files, command.input, command.options, &table)
+    make(alloc, command, files, &table)
 }

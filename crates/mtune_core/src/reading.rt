@@ -4,7 +4,7 @@ ghost use Rattle.scl_text.specs.Spelling.{ScaleText};
 ghost use Rattle.kbm_text.specs.Spelling.{MapText};
 ghost use Rattle.midi_model.specs.Spelling.{Spells};
 ghost use Rattle.retune_model.specs.Faults.{Targets};
-ghost use Rattle.retune_model.specs.Options.{Options};
+ghost use Rattle.command_line.specs.Words.{Command};
 ghost use Rattle.mtune_core.specs.Limits.{text_limit, input_limit};
 ghost use Rattle.mtune_core.specs.Retuned.{InputCause};
 ghost use Rattle.mtune_core.specs.Table.{ScaleCause, MapCause};
@@ -37,7 +37,8 @@ pub fn read_mapping(alloc: Global, text: &[u8]) -> Result<Mapping, Fault>
 pub fn read_input(alloc: Global, bytes: &[u8]) -> Result<Smf<'_>, Fault>
     requires { length bytes.now ≤ input_limit }
     ensures found { IfOk result (λ smf. Spells bytes.entry.now smf) }
-    ensures cause { IfErr result (λ e. (o : Options) (table : Targets) → InputCause o table bytes.entry.now e) }
+    ensures cause { IfErr result
+        (λ e. (c : Command) (table : Targets) → InputCause c table bytes.entry.now e) }
 {
     Ok(read_smf(alloc, bytes)?)
 }

@@ -10,6 +10,7 @@ ghost use Rattle.lifetimes.specs.Stands.{Stands, asked, table_in};
 ghost use Rattle.lifetimes.specs.Told.{TellsChange, told_fault, IsCaused};
 ghost use Rattle.mtune_core.specs.Survey.{IsFound};
 
+use crate::counting::Used;
 use event_stream::EventStream;
 use key_pitch::Aims;
 use lifetimes::{Change, Noted, Parts, StepFault};
@@ -20,10 +21,8 @@ use retune_model::{fault_laws, front_faults};
 pub struct Found {
     /// Which of them have a note on.
     pub noted: Noted,
-    /// How many notes they have.
-    pub notes: u32,
-    /// Which keys they have a note on of: a bit for each.
-    pub keys: u128,
+    /// What their notes are.
+    pub used: Used,
 }
 
 impl Found {
@@ -33,8 +32,7 @@ impl Found {
     {
         Found {
             noted: Noted::new(),
-            notes: 0,
-            keys: 0,
+            used: Used { notes: 0, keys: 0 },
         }
     }
 
@@ -47,8 +45,8 @@ impl Found {
     {
         self.noted.take(change);
         if let Some(begun) = change.begun {
-            self.notes = begun.note;
-            self.keys |= 1 << begun.key;
+            self.used.notes = begun.note;
+            self.used.keys |= 1 << begun.key;
         }
     }
 }

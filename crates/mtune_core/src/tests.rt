@@ -1,9 +1,22 @@
+mod audited;
+mod bent;
 mod dumped;
 mod failing;
+mod held;
+mod kinds;
 mod live;
 mod mapped;
+mod pieces;
+mod ported;
+mod realistic;
 mod refused;
+mod reset;
+mod routed;
+mod sampled;
+mod unchanged;
+mod zoned;
 
+use crate::lines::line_of;
 use crate::{Fault, Outcome, run};
 use mtune_files::MemFiles;
 use std::alloc::Global;
@@ -55,12 +68,18 @@ fn file_divided(
     bytes.push(tracks)?;
     bytes.extend_from_slice(&division)?;
     for content in contents {
-        bytes.extend_from_slice(b"MTrk\x00\x00")?;
-        bytes.push((content.len() / 256 % 256) as u8)?;
-        bytes.push((content.len() % 256) as u8)?;
-        bytes.extend_from_slice(content)?;
+        push_chunk(&mut bytes, content)?;
     }
     Ok(bytes)
+}
+
+/// Appends a track chunk, of fewer than 65,536 bytes.
+fn push_chunk(bytes: &mut Vec<u8>, content: &[u8]) -> Result<(), Fail> {
+    bytes.extend_from_slice(b"MTrk\x00\x00")?;
+    bytes.push((content.len() / 256 % 256) as u8)?;
+    bytes.push((content.len() % 256) as u8)?;
+    bytes.extend_from_slice(content)?;
+    Ok(())
 }
 
 /// The dump of twelve equal steps, as an event of a track behind a delta.
@@ -109,6 +128,14 @@ fn one_note_output(alloc: Global) -> Result<Vec<u8>, Fail> {
     file(alloc, 0, 1, &[track.as_slice()])
 }
 
+/// Whether an outcome has a fault of which the same is said.
+fn has_fault(outcome: &Outcome, fault: &Fault) -> bool {
+    match &outcome.fault {
+        None => false,
+        Some(found) => line_of(found).as_str() == line_of(fault).as_str(),
+    }
+}
+
 /// Checks an outcome, what was said, and what is held at the output's name.
 fn check(
     rt: &impl Abort,
@@ -120,7 +147,10 @@ fn check(
     held: Option<&[u8]>,
 ) {
     assert_eq!(rt; outcome.status, status);
-    assert!(rt; outcome.fault == fault);
+    match fault {
+        None => assert!(rt; outcome.fault.is_none()),
+        Some(fault) => assert!(rt; has_fault(&outcome, &fault)),
+    }
     assert!(rt; files.text() == said.as_bytes());
     assert!(rt; files.content("out.mid") == held);
 }
@@ -144,7 +174,7 @@ fn check_refused(
     let mut files = files(alloc, scale, input)?;
     let outcome = run(alloc, words, &mut files);
     assert_eq!(rt; outcome.status, status);
-    assert!(rt; outcome.fault == Some(fault));
+    assert!(rt; has_fault(&outcome, &fault));
     let said = joined(alloc, &[line[0].as_bytes(), line[1].as_bytes(), b"\n"])?;
     assert!(rt; files.text() == said.as_slice());
     assert!(rt; files.content("out.mid").is_none());

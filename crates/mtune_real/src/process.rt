@@ -1,6 +1,6 @@
 ghost use Rattle.std.specs.Prelude.{◌≡◌, IfOk, map, string_bytes};
 ghost use Rattle.std.specs.Process.{exit_status};
-ghost use Rattle.mtune_core.specs.Command.{texts};
+ghost use Rattle.command_line.specs.Words.{texts};
 ghost use Rattle.mtune_real.specs.Ended.{IsEnded};
 
 use crate::real::RealFiles;

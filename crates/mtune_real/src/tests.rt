@@ -89,6 +89,34 @@ fn many_notes_are_retuned(rt: HostRuntime) -> Result<(), Fail> {
     check_retuned(&rt, alloc, input.as_slice(), track.as_slice(), said)
 }
 
+/// How the report on a sample begins on bend, and what it says behind the lines of its keys.
+const SAMPLE_FRONT: &str = "route bend\nkey 48 to 48 bend 0 error 0.000 to 0.000\n";
+
+const SAMPLE_END: &str =
+    "notes 300000\nchannels 2\nneed 2 tick 240 position 8\npair 1 0\npair 2 0\nerror 0.000 to 0.000\n";
+
+#[test]
+fn the_largest_sample_is_retuned(rt: HostRuntime) -> Result<(), Fail> {
+    let alloc = rt.alloc();
+    let mut files = MemFiles::new(alloc);
+    files.add("equal.scl", EQUAL.as_bytes())?;
+    let words = [
+        "--scale",
+        "equal.scl",
+        "--a440",
+        "--sample",
+        "100000",
+        "--out",
+        "out.mid",
+        "none.mid",
+    ];
+    let outcome = run(alloc, &words, &mut files);
+    assert_eq!(rt; outcome.status, 0);
+    assert!(rt; files.text().starts_with(SAMPLE_FRONT.as_bytes()));
+    assert!(rt; files.text().ends_with(SAMPLE_END.as_bytes()));
+    Ok(())
+}
+
 #[test]
 fn a_long_event_is_written_again(rt: HostRuntime) -> Result<(), Fail> {
     let alloc = rt.alloc();

@@ -1,5 +1,5 @@
 use super::{
-    E12, ONE_NOTE, SAID, SELECT, WORDS, check, check_done, dump_event, file, file_divided, files,
+    E12, ONE_NOTE, SAID, SELECT, WORDS, check, check_done, dump_event, file, files, has_fault,
     joined, one_note_output,
 };
 use crate::{Fault, run};
@@ -98,42 +98,8 @@ fn output_takes_the_place_of_the_input(rt: HostRuntime) -> Result<(), Fail> {
     let line = b"mtune: input event 1 tick 0 track 0 kind 7\n";
     let said = joined(alloc, &[SAID.as_bytes(), line])?;
     assert_eq!(rt; outcome.status, 2);
-    assert!(rt; outcome.fault == Some(fault));
+    assert!(rt; has_fault(&outcome, &fault));
     assert!(rt; files.text() == said.as_slice());
     assert!(rt; files.content("in.mid") == Some(output.as_slice()));
-    Ok(())
-}
-
-#[test]
-fn pieces_without_retuned_notes_stay(rt: HostRuntime) -> Result<(), Fail> {
-    let alloc = rt.alloc();
-    // an end of track alone; notes of the drums alone; a delta time in more bytes than it needs; the last tick
-    let rows: [([u8; 2], &[u8], &[u8]); 4] = [
-        // a division of 96
-        ([0x00, 0x60], b"\x00\xff\x2f\x00", b"\x00\xff\x2f\x00"),
-        (
-            [0x01, 0xe0],
-            b"\x00\x99\x24\x40\x00\x24\x40\x60\x24\x00\x00\x24\x00\x00\xff\x2f\x00",
-            b"\x00\x99\x24\x40\x00\x24\x40\x60\x24\x00\x00\x24\x00\x00\xff\x2f\x00",
-        ),
-        (
-            [0x01, 0xe0],
-            b"\x80\x80\x00\xff\x2f\x00",
-            b"\x00\xff\x2f\x00",
-        ),
-        (
-            [0x01, 0xe0],
-            b"\xff\xff\xff\x7f\xff\x2f\x00",
-            b"\xff\xff\xff\x7f\xff\x2f\x00",
-        ),
-    ];
-    for (division, content, wanted) in rows {
-        let input = file_divided(alloc, 0, 1, division, &[content])?;
-        let mut files = files(alloc, E12, input.as_slice())?;
-        let outcome = run(alloc, WORDS.as_slice(), &mut files);
-        let output = file_divided(alloc, 0, 1, division, &[wanted])?;
-        let said = "route dump\nnotes 0\nchannels 0\nerror none\n";
-        check(&rt, &files, outcome, None, 0, said, Some(output.as_slice()));
-    }
     Ok(())
 }

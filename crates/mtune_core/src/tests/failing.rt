@@ -1,5 +1,5 @@
 use super::mapped::{GAP, MAPPED, files};
-use super::{E12, ONE_NOTE, WORDS, check};
+use super::{E12, ONE_NOTE, WORDS, check, files as one_note_files, one_note_output};
 use crate::{Fault, run};
 use mtune_files::{MemFiles, Which};
 use std::alloc::Global;
@@ -128,5 +128,23 @@ fn names_that_nothing_is_held_under(rt: HostRuntime) -> Result<(), Fail> {
     let said = "mtune: cannot load scale\nmtune: cannot load input\n";
     check(&rt, &files, outcome, Some(fault), 3, said, None);
     assert_eq!(rt; counts(&files), [1, 0, 1, 0, 0]);
+    Ok(())
+}
+
+#[test]
+fn one_note_is_kept_where_its_report_fails(rt: HostRuntime) -> Result<(), Fail> {
+    let alloc = rt.alloc();
+    // the calls load the scale and the input, store and say
+    let mut files = one_note_files(alloc, E12, &ONE_NOTE)?;
+    files.fail(3)?;
+    let outcome = run(alloc, WORDS.as_slice(), &mut files);
+    let said = "mtune: cannot store\n";
+    check(&rt, &files, outcome, Some(Fault::Store), 3, said, Some(b""));
+    let mut files = one_note_files(alloc, E12, &ONE_NOTE)?;
+    files.fail(4)?;
+    let outcome = run(alloc, WORDS.as_slice(), &mut files);
+    let output = one_note_output(alloc)?;
+    let held = Some(output.as_slice());
+    check(&rt, &files, outcome, Some(Fault::Say), 3, "", held);
     Ok(())
 }

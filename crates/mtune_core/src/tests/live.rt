@@ -21,38 +21,6 @@ pub fn note_of_port(port: u8) -> [u8; 18] {
 }
 
 #[test]
-fn one_note_is_told(rt: HostRuntime) -> Result<(), Fail> {
-    let alloc = rt.alloc();
-    let mut files = files(alloc, E12, &ONE_NOTE)?;
-    let outcome = run(alloc, LIVE.as_slice(), &mut files);
-    let track = joined(alloc, &[&SELECT, &CHANGE, &ONE_NOTE[22..]])?;
-    assert_eq!(rt; track.len(), 43);
-    let output = file(alloc, 0, 1, &[track.as_slice()])?;
-    let said =
-        "route live\nkey 69 to 45 00 00 error 0.000 to 0.000\nnotes 1\nchannels 1\nerror 0.000 to 0.000\n";
-    check(&rt, &files, outcome, None, 0, said, Some(output.as_slice()));
-    Ok(())
-}
-
-#[test]
-fn pieces_without_retuned_notes_stay_on_live(rt: HostRuntime) -> Result<(), Fail> {
-    let alloc = rt.alloc();
-    // an end of track alone; notes of the drums alone
-    let rows: [&[u8]; 2] = [
-        b"\x00\xff\x2f\x00",
-        b"\x00\x99\x24\x40\x00\x24\x40\x60\x24\x00\x00\x24\x00\x00\xff\x2f\x00",
-    ];
-    for content in rows {
-        let input = file(alloc, 0, 1, &[content])?;
-        let mut files = files(alloc, E12, input.as_slice())?;
-        let outcome = run(alloc, LIVE.as_slice(), &mut files);
-        let said = "route live\nnotes 0\nchannels 0\nerror none\n";
-        check(&rt, &files, outcome, None, 0, said, Some(input.as_slice()));
-    }
-    Ok(())
-}
-
-#[test]
 fn each_port_has_its_setup(rt: HostRuntime) -> Result<(), Fail> {
     let alloc = rt.alloc();
     let first = note_of_port(0);

@@ -1,4 +1,6 @@
-use super::{E12, ONE_NOTE, SELECT, blanks, check, check_done, file, joined, one_note_output};
+use super::{
+    E12, ONE_NOTE, SELECT, blanks, check, check_done, file, has_fault, joined, one_note_output,
+};
 use crate::{Fault, run};
 use kbm_text::KbmKind;
 use lifetimes::{SourceFault, SourceKind};
@@ -137,6 +139,29 @@ fn each_key_has_its_error(rt: HostRuntime) -> Result<(), Fail> {
     Ok(())
 }
 
+/// What is said of the keys of a scale of 100 cents, 5/4, 408 cents and a period of -5 cents.
+const ODD_SAID: &str =
+    "route dump\nkey 69 to 45 00 00 error 0.000 to 0.000\nkey 70 to 46 00 00 error 0.000 to 0.000\n\
+key 71 to 48 6E 3E error 0.002 to 0.003\nkey 72 to 49 0A 1F error 0.001 to 0.002\n\
+key 73 to 44 79 4D error 0.001 to 0.002\nnotes 5\nchannels 1\nerror 0.000 to 0.003\n";
+
+#[test]
+fn comments_and_other_ends_of_lines_are_read(rt: HostRuntime) -> Result<(), Fail> {
+    let alloc = rt.alloc();
+    let notes = b"\x00\x90\x45\x40\x00\x46\x40\x00\x47\x40\x00\x48\x40\x00\x49\x40\x00\xff\x2f\x00";
+    let input = file(alloc, 0, 1, &[notes])?;
+    for scale in [
+        "! x\ntest\n 4\n100.0 cents\n5/4   E\\\n408.\n-5.0\n",
+        "! x\r\ntest\r\n 4\r\n100.0 cents\r\n5/4   E\\\r\n408.\r\n-5.0\r\n",
+    ] {
+        let mut files = files(alloc, scale, "", input.as_slice())?;
+        let outcome = run(alloc, AT_440.as_slice(), &mut files);
+        assert!(rt; outcome.fault.is_none());
+        assert!(rt; files.text() == ODD_SAID.as_bytes());
+    }
+    Ok(())
+}
+
 /// Checks that a call with a mapping is refused, with what is said of it.
 fn check_mapping(
     rt: &impl Abort,
@@ -150,10 +175,20 @@ fn check_mapping(
     let outcome = run(alloc, MAPPED.as_slice(), &mut files);
     let line = joined(alloc, &[said[0].as_bytes(), said[1].as_bytes(), b"\n"])?;
     assert_eq!(rt; outcome.status, 2);
-    assert!(rt; outcome.fault == Some(fault));
+    assert!(rt; has_fault(&outcome, &fault));
     assert!(rt; files.text() == line.as_slice());
     assert!(rt; files.content("out.mid").is_none());
     Ok(())
+}
+
+/// A note on of key 61 as the first event of a file.
+fn unmapped() -> Fault {
+    Fault::Source(SourceFault {
+        position: 1,
+        tick: 0,
+        track: 0,
+        kind: SourceKind::UnmappedKey,
+    })
 }
 
 /// Mappings that can't be read, each with the line and the kind that are told.
@@ -248,12 +283,7 @@ fn mappings_that_give_no_table_are_refused(rt: HostRuntime) -> Result<(), Fail> 
         &rt,
         alloc,
         (E12, GAP, input.as_slice()),
-        Fault::Source(SourceFault {
-            position: 1,
-            tick: 0,
-            track: 0,
-            kind: SourceKind::UnmappedKey,
-        }),
+        unmapped(),
         ["mtune: input event 1 tick 0 track 0 ", "kind 1"],
     )
 }

@@ -1,4 +1,4 @@
-use super::{E12, ONE_NOTE, WORDS, blanks, check, check_refused, file, files};
+use super::{E12, ONE_NOTE, WORDS, blanks, check, check_refused, file, files, has_fault};
 use crate::{Fault, run};
 use lifetimes::{SourceFault, SourceKind};
 use midi_model::SmfKind;
@@ -24,102 +24,84 @@ fn no_words_are_refused(rt: HostRuntime) -> Result<(), Fail> {
     Ok(())
 }
 
-/// Words that are refused, each with what is wrong in them.
-const WRONG_WORDS: [&[&str]; 12] = [
+/// Words that are refused, each with the kind that is told.
+const WRONG_WORDS: [(&[&str], u8); 9] = [
     // no input
-    &[
-        "--scale", "e12.scl", "--a440", "--route", "dump", "--out", "out.mid",
-    ],
+    (&["--scale", "e12.scl", "--out", "out.mid"], 1),
     // one word more
-    &[
-        "--scale", "e12.scl", "--a440", "--route", "dump", "--out", "out.mid", "in.mid", "x",
-    ],
-    // two mappings
-    &[
-        "--scale", "e12.scl", "--map", "m.kbm", "--a440", "--route", "dump", "--out", "out.mid",
-        "in.mid",
-    ],
+    (
+        &["--scale", "e12.scl", "--out", "out.mid", "in.mid", "x"],
+        1,
+    ),
     // an option in place of a mapping's name
-    &[
-        "--scale", "e12.scl", "--map", "--route", "dump", "--out", "out.mid", "in.mid",
-    ],
-    // a mapping behind the route
-    &[
-        "--scale", "e12.scl", "--route", "dump", "--map", "m.kbm", "--out", "out.mid", "in.mid",
-    ],
-    // another route
-    &[
-        "--scale", "e12.scl", "--a440", "--route", "loud", "--out", "out.mid", "in.mid",
-    ],
-    // drums that are neither kept nor retuned
-    &[
-        "--scale", "e12.scl", "--a440", "--route", "live", "--drums", "mute", "--out", "out.mid",
-        "in.mid",
-    ],
-    // programs that are too great, or no digits, or none
-    &[
-        "--scale",
-        "e12.scl",
-        "--a440",
-        "--route",
-        "dump",
-        "--program",
-        "128",
-        "--out",
-        "out.mid",
-        "in.mid",
-    ],
-    &[
-        "--scale",
-        "e12.scl",
-        "--a440",
-        "--route",
-        "dump",
-        "--program",
-        "+1",
-        "--out",
-        "out.mid",
-        "in.mid",
-    ],
-    &[
-        "--scale",
-        "e12.scl",
-        "--a440",
-        "--route",
-        "dump",
-        "--program",
-        "",
-        "--out",
-        "out.mid",
-        "in.mid",
-    ],
-    // drums behind the program
-    &[
-        "--scale",
-        "e12.scl",
-        "--a440",
-        "--route",
-        "dump",
-        "--program",
-        "1",
-        "--drums",
-        "keep",
-        "--out",
-        "out.mid",
-        "in.mid",
-    ],
-    // an option in place of a name
-    &[
-        "--scale", "e12.scl", "--a440", "--route", "dump", "--out", "out.mid", "-in.mid",
-    ],
+    (
+        &["--scale", "e12.scl", "--map", "--out", "out.mid", "in.mid"],
+        1,
+    ),
+    // a program that is too great
+    (
+        &[
+            "--scale",
+            "e12.scl",
+            "--route=dump",
+            "--program=128",
+            "--out",
+            "out.mid",
+            "in.mid",
+        ],
+        1,
+    ),
+    // another route; drums that are neither kept nor retuned; a channel before the first
+    (
+        &[
+            "--scale", "e12.scl", "--route", "loud", "--out", "out.mid", "in.mid",
+        ],
+        2,
+    ),
+    (
+        &[
+            "--scale", "e12.scl", "--drums", "mute", "--out", "out.mid", "in.mid",
+        ],
+        2,
+    ),
+    (
+        &[
+            "--scale",
+            "e12.scl",
+            "--channels",
+            "0",
+            "--out",
+            "out.mid",
+            "in.mid",
+        ],
+        2,
+    ),
+    // a range where nothing is bent; two mappings
+    (
+        &[
+            "--scale", "e12.scl", "--route", "dump", "--range", "12", "--out", "out.mid", "in.mid",
+        ],
+        3,
+    ),
+    (
+        &[
+            "--scale", "e12.scl", "--map", "m.kbm", "--a440", "--out", "out.mid", "in.mid",
+        ],
+        3,
+    ),
 ];
 
 #[test]
 fn wrong_words_are_refused(rt: HostRuntime) -> Result<(), Fail> {
     let alloc = rt.alloc();
-    for words in WRONG_WORDS {
-        let fault = Fault::Usage { kind: 1 };
-        let line = ["mtune: usage ", "1"];
+    for (words, kind) in WRONG_WORDS {
+        let fault = Fault::Usage { kind };
+        let number = match kind {
+            1 => "1",
+            2 => "2",
+            _ => "3",
+        };
+        let line = ["mtune: usage ", number];
         check_refused(&rt, alloc, E12, &ONE_NOTE, words, fault, 1, line)?;
     }
     Ok(())
@@ -127,8 +109,20 @@ fn wrong_words_are_refused(rt: HostRuntime) -> Result<(), Fail> {
 
 #[test]
 fn broken_scales_are_refused(rt: HostRuntime) -> Result<(), Fail> {
-    let cases: [(&str, u32, SclKind, &str); 4] = [
+    let cases: [(&str, u32, SclKind, &str); 6] = [
         ("", 1, SclKind::NoDescription, "1 kind 1"),
+        (
+            "! x\ntest\n 4\n100.0 cents\n5/4   E\\\n408.\n-5\n",
+            7,
+            SclKind::NegativeRatio,
+            "7 kind 6",
+        ),
+        (
+            "! x\ntest\n 4\n100.0 cents\n5/4   E\\\n408.\n",
+            7,
+            SclKind::MissingPitch,
+            "7 kind 9",
+        ),
         ("x\n2\n100.0\nnine\n", 4, SclKind::BadPitch, "4 kind 5"),
         // comments count as lines
         ("! x\nx\n1\n3/0\n", 4, SclKind::ZeroRatio, "4 kind 7"),
@@ -165,7 +159,7 @@ fn contents_of_a_byte_too_many_are_refused(rt: HostRuntime) -> Result<(), Fail> 
     files.add("e12.scl", blanks(alloc, 262_144)?.as_slice())?;
     let outcome = run(alloc, WORDS.as_slice(), &mut files);
     let kind = SclKind::NoCount;
-    assert!(rt; outcome.fault == Some(Fault::Scl { line: 2, kind }));
+    assert!(rt; has_fault(&outcome, &Fault::Scl { line: 2, kind }));
     Ok(())
 }
 

@@ -11,5 +11,6 @@ returns c = accepted_is_not_refused (record {
   playable = c.file_laws.ensures.playable;
   ends = c.ends.ensures.in_order;
   first = c.fault_laws.ensures.some;
+  fits = c.refusal_laws.ensures.apart;
   no_file_fault = c.file_laws.ensures.never_both;
 })

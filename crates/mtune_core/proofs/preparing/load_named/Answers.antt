@@ -7,9 +7,11 @@ use Rattle.mtune_core.proofs.Stages.{made_at, faults_at}
 use Rattle.mtune_core.proofs.preparing.load_named.Goals as goal
 
 pub returns-clause-mapping : goal.returns-clause-mapping
-returns-clause-mapping g c = made_at c.read_mapping.result (g.F.Files.outside c.args.files.now) c.args.name.now c.in_ok-text.text.items c.deref.result.now text_limit (λ m text. MapText (lines_of text) m)
+returns-clause-mapping g c = made_at c.read_mapping.result (g.F.Files.outside c.args.files.now) c.args.name.now c.in_ok-text.text.items
+    c.deref.result.now text_limit (λ m text. MapText (lines_of text) m)
     c.in_ok-text.ensures.content c.in_ok-text.ensures.short c.deref.ensures.value c.read_mapping.ensures.found
 
 pub returns-clause-cause : goal.returns-clause-cause
-returns-clause-cause g c = faults_at c.read_mapping.result (g.F.Files.outside c.args.files.now) (g.F.Files.outside c.load.new.files) Map c.args.name.now c.in_ok-text.text.items c.deref.result.now text_limit MapCause
+returns-clause-cause g c = faults_at c.read_mapping.result (g.F.Files.outside c.args.files.now) (g.F.Files.outside c.load.new.files) Map
+    c.args.name.now c.in_ok-text.text.items c.deref.result.now text_limit MapCause
     c.in_ok-text.ensures.content c.in_ok-text.ensures.short c.deref.ensures.value c.in_ok-text.ensures.loaded c.read_mapping.ensures.cause

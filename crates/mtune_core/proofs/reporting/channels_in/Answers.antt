@@ -10,5 +10,6 @@ loop-channel-preserved c =
     let low : c.one_if-count.result ≤ 1 = subst (λ n. n ≤ 1) (sym c.one_if-count.ensures) (bit_is_low (has c.args.mask c.loop-channel.channel)) in
     record {
       few = omega (arith, few, low);
-      left = next_channel (λ i. has c.args.mask i) c.loop-channel.channel c.loop-channel.count c.one_if-count.result _ (omega arith) c.one_if-count.ensures inv.left;
+      left = next_channel (λ i. has c.args.mask i) c.loop-channel.channel c.loop-channel.count c.one_if-count.result _
+          (omega arith) c.one_if-count.ensures inv.left;
     }

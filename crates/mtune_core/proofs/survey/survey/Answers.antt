@@ -22,7 +22,8 @@ events-init g c =
       position = sym c.requires.start.position;
       few = omega (arith, ap length rest, few);
       valid = subst (AllByRecursion IsValidEvent) (sym rest) c.requires.valid;
-      order = subst (λ t. AreInOrder t (g.S.EventStream.rest c.rewind.new.self)) (sym c.requires.start.tick) (subst (AreInOrder 0) (sym rest) c.requires.order);
+      order = subst (λ t. AreInOrder t (g.S.EventStream.rest c.rewind.new.self)) (sym c.requires.start.tick)
+          (subst (AreInOrder 0) (sym rest) c.requires.order);
       tracks = subst (AllByRecursion (λ (e : MidiEvent). e.track < 1024)) (sym rest) c.requires.tracks;
       front = ([], sym rest, c.requires.start, c.new-found.ensures (asked c.args.parts.now));
     }
@@ -40,7 +41,8 @@ returns-in_err-change-clause-fault g c =
     let whole : g.S.EventStream.all c.args.stream.now ≡ seen ++ e ∷ rest = inv.front.1 ∙ ap (λ l. seen ++ l) c.in-Some.ensures.some in
     let restless = ap (λ (x : Options). x.tail) inv.options ∙ c.requires.restless in
     told_on c.from_residual.result f c.from_residual.ensures.1
-    ∙ first_told c.front_faults.ensures.first o table seen e rest f restless c.in_err-change.ensures.memory stands.faultless (c.in_err-change.ensures.fault seen stands)
+    ∙ first_told c.front_faults.ensures.first o table seen e rest f restless c.in_err-change.ensures.memory stands.faultless
+    (c.in_err-change.ensures.fault seen stands)
     ∙ ap (λ l. first_fault o table l) (sym whole)
     ∙ ap (λ x. first_fault x table (g.S.EventStream.all c.args.stream.now)) inv.options
     ∙ ap (λ t. first_fault (asked c.args.parts.now) (g.T.Aims.table t) (g.S.EventStream.all c.args.stream.now)) inv.table

@@ -1,6 +1,6 @@
 use Rattle.std.proofs.Common.{List, ℕ, ap, subst, ◌∙◌}
 use Rattle.std.specs.Process.{exit_status}
-use Rattle.mtune_core.specs.Command.{texts}
+use Rattle.command_line.specs.Words.{texts}
 use Rattle.mtune_real.specs.Ended.{IsEnded}
 use Rattle.mtune_real.proofs.Ends.{by_fault}
 use Rattle.mtune_real.proofs.process.perform.Goals as goal

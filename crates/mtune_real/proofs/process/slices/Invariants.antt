@@ -1,5 +1,5 @@
 use Rattle.std.proofs.Common.{◌≡◌, map, take, string_bytes}
-use Rattle.mtune_core.specs.Command.{texts}
+use Rattle.command_line.specs.Words.{texts}
 use Rattle.mtune_real.proofs.process.slices.Given as goal
 
 abbrev pub invariant-loop-word : goal.invariant-loop-word
