@@ -85,14 +85,15 @@ fn content_of(alloc: Global, pieces: &[Piece<'_>]) -> Result<Vec<u8>, Fail> {
         track.put(piece)?;
     }
     if !matches!(pieces.last(), Some(End(_))) {
-        track.put(&End(track.tick))?;
+        let tick = track.tick;
+        track.put(&End(tick))?;
     }
     Ok(track.bytes)
 }
 
 /// A file of format 0 with one track, or of format 1.
 pub fn file_of(alloc: Global, tracks: &[&[Piece<'_>]]) -> Result<Vec<u8>, Fail> {
-    let count = tracks.len() as u8;
+    let count = (tracks.len() % 256) as u8;
     let mut bytes = file(alloc, u8::from(count > 1), count, &[])?;
     for pieces in tracks {
         push_chunk(&mut bytes, content_of(alloc, pieces)?.as_slice())?;
