@@ -76,10 +76,11 @@ impl Port {
     /// Whether a retuned note of a pair sounds.
     pub fn sounds(&self, channel: Channel, steps: i32) -> bool
         ensures sounds { (o : Options) (table : Targets) (es : List MidiEvent)
-            → AllByRecursion IsValidEvent es → PortStands o table es self.now → result ≡ pair_sounds o table es (pair_on self.now.number channel steps) }
+            → AllByRecursion IsValidEvent es → PortStands o table es self.now
+            → result ≡ pair_sounds o table es (pair_on self.now.number channel steps) }
         ensures pairs { (o : Options) (table : Targets) (es : List MidiEvent)
-            → AllByRecursion IsValidEvent es → AreInOrder 0 es → IsFaultless o table es → PortStands o table es self.now
-            → bends_notes o.route ≡ true
+            → AllByRecursion IsValidEvent es → AreInOrder 0 es → IsFaultless o table es
+            → PortStands o table es self.now → bends_notes o.route ≡ true
             → result ≡ is_sounding o table es (pair_on self.now.number channel steps) }
     {
         music_laws();
@@ -100,7 +101,8 @@ impl Port {
         ensures pairs { (o : Options) (table : Targets) (es : List MidiEvent)
             → AllByRecursion IsValidEvent es → AreInOrder 0 es → IsFaultless o table es → PortStands o table es self.now
             → tail ≡ o.tail → tick ≡ tick_to es (length es) → bends_notes o.route ≡ true
-            → is_part o channel ≡ true → result ≡ is_held o table es (pair_on self.now.number channel steps) }
+            → is_part o channel ≡ true
+            → result ≡ is_held o table es (pair_on self.now.number channel steps) }
     {
         position_laws();
         sound_sources();

@@ -40,7 +40,8 @@ fn channels(plan: &Plan) -> u64
 /// Appends the line that says on how many channels the retuned notes are, by a plan of the bend or the MPE route:
 /// as many as each port needs, and as each zone has members. On `Memory` nothing is appended.
 pub fn push_channels(plan: &Plan, out: &mut Vec<u8>) -> Result<(), Memory>
-    ensures text { OnOk result (out.new.items ≡ out.old.items ++ channels_line (channels_told plan.now)) }
+    ensures text { OnOk result
+        (out.new.items ≡ out.old.items ++ channels_line (channels_told plan.now)) }
     ensures same { OnErr result (out.new.items ≡ out.old.items) }
 {
     let mut line = Line::new();

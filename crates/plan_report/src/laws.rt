@@ -25,13 +25,15 @@ pub fn report_examples()
     ensures silent { port_lines (λ z. need_line 0 (instant_at 0 0) ++ pair_lines []) []
         ≡ codes "need 0 tick 0 position 0\n" }
     ensures ports { port_lines one_pair (0 ∷ 1 ∷ [])
-        ≡ codes "port 0\nneed 1 tick 0 position 2\npair 1 0\nport 1\nneed 1 tick 0 position 4\npair 1 0\n" }
+        ≡ codes "port 0\nneed 1 tick 0 position 2\npair 1 0\n"
+        ++ codes "port 1\nneed 1 tick 0 position 4\npair 1 0\n" }
     ensures one_port { port_lines one_pair (0 ∷ [])
         ≡ codes "need 1 tick 0 position 2\npair 1 0\n" }
     ensures other_port { port_lines one_pair (1 ∷ [])
         ≡ codes "port 1\nneed 1 tick 0 position 4\npair 1 0\n" }
     ensures zones { zone_line (zone_of false 0 9 9) ++ zone_line (zone_of true 1 5 14)
-        ≡ codes "zone lower part 1 need 9 tick 0 position 9\nzone upper part 2 need 5 tick 0 position 14\n" }
+        ≡ codes "zone lower part 1 need 9 tick 0 position 9\n"
+        ++ codes "zone upper part 2 need 5 tick 0 position 14\n" }
 {}
 
 /// The lines of the faults.

@@ -25,7 +25,8 @@ fn pair_line(pair: &Pair) -> Line
 
 /// Appends the lines of pairs. On `Memory` a front of them.
 pub(crate) fn push_pairs(out: &mut Vec<u8>, pairs: &[Pair]) -> Result<(), Memory>
-    ensures text { OnOk result (out.new.items ≡ out.old.items ++ pair_lines (map pair_of pairs.now)) }
+    ensures text { OnOk result
+        (out.new.items ≡ out.old.items ++ pair_lines (map pair_of pairs.now)) }
     ensures front { OnErr result
         (IsFront out.old.items (pair_lines (map pair_of pairs.now)) out.new.items) }
 {

@@ -27,7 +27,8 @@ fn zone_line(zone: &Zone) -> Line
 /// Appends the lines of the zone at a place of a port, if there is one.
 fn push_zone(plan: &Plan, port: u8, place: usize, out: &mut Vec<u8>) -> Result<(), Memory>
     ensures text { OnOk result (out.new.items ≡ out.old.items ++ zone_told plan.now port place) }
-    ensures front { OnErr result (IsFront out.old.items (zone_told plan.now port place) out.new.items) }
+    ensures front { OnErr result
+        (IsFront out.old.items (zone_told plan.now port place) out.new.items) }
 {
     let Some(zone) = plan.zone(port, place) else {
         return Ok(());

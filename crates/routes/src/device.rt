@@ -39,7 +39,8 @@ fn target<T: Aims>(table: &T, key: u8) -> Option<u32>
 /// The dump of all keys' targets.
 fn dump_targets<T: Aims>(table: &T, program: u8) -> ArrayVec<u8, 407>
     requires { program ≤ 127 }
-    ensures { result.items ≡ dump_bytes program (values_from (tuning_at (T.table table.now)) 0 128) }
+    ensures { result.items
+        ≡ dump_bytes program (values_from (tuning_at (T.table table.now)) 0 128) }
 {
     let mut targets = [None; 128];
     for key in 0..128u8 {

@@ -63,7 +63,8 @@ impl<'a> Lines<'a> {
     /// The next line that is neither a comment nor blanks alone.
     pub fn next_entry(&mut self) -> Option<Line<'a>>
         ensures some { IfSome result
-            (λ line. entry_lines (remaining self.old) ≡ view line ∷ entry_lines (remaining self.new)) }
+            (λ line. entry_lines (remaining self.old)
+            ≡ view line ∷ entry_lines (remaining self.new)) }
         ensures none { IfNone result (entry_lines (remaining self.old) ≡ []) }
         ensures ended { IfNone result (entry_lines (remaining self.new) ≡ []) }
     {

@@ -35,7 +35,8 @@ impl Changes {
     pub fn push(&mut self, from: u32, table: KeyTable) -> Result<(), Memory>
         requires above { last_from (tables_of self.old) < from }
         requires few { length (tables_of self.old) < 17 }
-        ensures pushed { OnOk result (tables_of self.new ≡ tables_of self.old ++ (from, table) ∷ []) }
+        ensures pushed { OnOk result
+            (tables_of self.new ≡ tables_of self.old ++ (from, table) ∷ []) }
         ensures same { OnErr result (tables_of self.new ≡ tables_of self.old) }
     {
         in_force_laws();

@@ -69,7 +69,8 @@ pub fn read_list<'a>(alloc: Global, text: &'a [u8]) -> Result<Vec<(u32, &'a str)
         (λ e. IsFaultOf (ListTextFault (lines_of text.entry.now)) (seen e)) }
     // A list with such a line is refused for it, unless memory runs out.
     ensures only_fault { (line : ℕ) (kind : ListKind)
-        → ListTextFault (lines_of text.entry.now) line kind → AnswersFault seen (told result) line kind }
+        → ListTextFault (lines_of text.entry.now) line kind
+        → AnswersFault seen (told result) line kind }
     // Reading from left to right gives the same.
     ensures exact { Gives seen (λ v. v) (told result) (list_of (lines_of text.entry.now)) }
 {

@@ -108,7 +108,8 @@ pub fn read_scl(alloc: Global, text: &[u8]) -> Result<Scale, SclFault>
     // What is read is a scale text with these entries.
     ensures found { IfOk result (ScaleText (lines_of text.now)) }
     // A scale text is read, unless memory runs out.
-    ensures only { (scale : List Entry) → ScaleText (lines_of text.now) scale → Answers seen result scale }
+    ensures only { (scale : List Entry)
+        → ScaleText (lines_of text.now) scale → Answers seen result scale }
     // What is answered is the first fault.
     ensures fault { IfErr result (λ e. IsFaultOf (ScaleFault (lines_of text.now)) (seen e)) }
     // A text with a fault is refused with it, unless memory runs out.
