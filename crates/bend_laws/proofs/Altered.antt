@@ -106,7 +106,7 @@ is_resets Resets h = refl
 is_resets (Tunes r) h = absurd cc
 is_resets Nothing h = absurd cc
 
-nothing_there : (k : Moment) (p : Pair) → k.is ≡ [] → Has k.is p → ⊥
+pub nothing_there : (k : Moment) (p : Pair) → k.is ≡ [] → Has k.is p → ⊥
 nothing_there k p h i = both_ways false refl (ap (λ ps. is_member is_same_pair ps p) (sym h) ∙ i)
 
 reset_block : (port : ℕ) (o : Options) (table : Targets) (k : Moment) (before out : Music) (t track : ℕ) (w : MidiWhat) → IsPassed w →

@@ -243,7 +243,7 @@ pub last_of : (P : Note → Type 0) (ns : List Note) (n : Note) → AllByRecursi
 last_of P [] n h = h.0
 last_of P (x ∷ xs) n h = last_of P xs n h.1
 
-front_of : (P : Note → Type 0) (f : Note → Note) (ns xs : List Note) → AllByRecursion P (map f ns ++ xs) → AllByRecursion (λ n. P (f n)) ns
+pub front_of : (P : Note → Type 0) (f : Note → Note) (ns xs : List Note) → AllByRecursion P (map f ns ++ xs) → AllByRecursion (λ n. P (f n)) ns
 front_of P f [] xs h = tt
 front_of P f (n ∷ ns) xs h = (h.0, front_of P f ns xs h.1)
 

@@ -27,7 +27,7 @@ use Rattle.bend_laws.proofs.Lists.{all_append}
 use Rattle.bend_laws.proofs.Playing.{saying}
 use Rattle.bend_laws.proofs.Given.{Laws}
 use Rattle.bend_laws.proofs.Still.{no_message}
-use Rattle.bend_laws.proofs.Ticking.{music_all}
+use Rattle.midi_model.proofs.Same.{music_all}
 use Rattle.bend_laws.proofs.Opening.{all_blocks}
 use Rattle.bend_laws.proofs.Righting.{IsRight, Shaped, shaped_at, no_drum}
 
@@ -188,7 +188,7 @@ either_same law scaling o table a b source out none_source none_out h = record {
       (either_beginnings a b [] out none_out) h.beginnings);
 }
 
-and_true : (a b : Bool) → b ≡ true → (a && b) ≡ a
+pub and_true : (a b : Bool) → b ≡ true → (a && b) ≡ a
 and_true true b h = h
 and_true false b h = refl
 

@@ -56,7 +56,7 @@ not_at c k n h = ap (λ b. b && nat_eq n.key k) (ne_eqb n.channel c h)
 not_heard : (c : ℕ) (n : Note) → n.channel ≢ c → hears no_zones c n ≡ false
 not_heard c n h = ap (λ b. b || nat_eq (governor no_zones n.channel) c) (ne_eqb n.channel c h) ∙ governs_not c n h
 
-releasing_channel : (t v : ℕ) (n : Note) → (releasing t v n).channel ≡ n.channel
+pub releasing_channel : (t v : ℕ) (n : Note) → (releasing t v n).channel ≡ n.channel
 releasing_channel t v n = cond_both (is_down n) (record n { release = Some (t, v) }) n (λ (y : Note). y.channel ≡ n.channel) (λ e. refl) (λ e. refl)
 
 cut_else : (t c k : ℕ) (n : Note) → IsElsewhere c n (cut_off t c k n)

@@ -26,7 +26,7 @@ use Rattle.bend_laws.specs.Follows.{AreUsed, SoundAmong, Follows}
 use Rattle.bend_laws.specs.Positions.{both_at, up_to_position}
 use Rattle.bend_laws.proofs.Planning.{IsPlanned}
 use Rattle.bend_laws.specs.Simulation.{PlaysAt, IsState, planned_channels}
-use Rattle.bend_laws.proofs.Ticking.{music_all}
+use Rattle.midi_model.proofs.Same.{music_all}
 use Rattle.bend_laws.proofs.Opening.{all_blocks}
 use Rattle.bend_laws.proofs.Drumless.{notes_either}
 use Rattle.bend_laws.proofs.Ticks.{AreTimely}

@@ -1,6 +1,5 @@
 -- The laws that the proof rests on, and what is known of a message without a fault.
-use Rattle.std.proofs.Common.{◌≡◌, ◌&&◌, ◌<◌, ◌≤◌, ℕ, pos, Bool, true, false, cond, List, [], ◌∷◌, Some, None, is_some, refl, sym, ◌∙◌, subst, length, arith}
-use Rattle.std.specs.List.{AllByRecursion}
+use Rattle.std.proofs.Common.{◌≡◌, ◌&&◌, ◌<◌, ◌≤◌, ℕ, pos, true, false, List, None, is_some, sym, ◌∙◌, subst, length, arith}
 use Rattle.retune_model.specs.Pairs.{Pair}
 use Rattle.mt_base.specs.declared.event.Msg.{Msg}
 use Rattle.mt_base.specs.declared.event.Msg.TheVariants.{NoteOn, NoteOff, KeyPressure, Control, Program, Pressure, Bend}
@@ -11,7 +10,7 @@ use Rattle.midi_model.specs.Notes.{Note}
 use Rattle.midi_model.specs.Music.{Music, channel_at}
 use Rattle.midi_model.specs.MusicLaws.{EventsSettle, NotesFade}
 use Rattle.retune_model.specs.Options.{Options}
-use Rattle.retune_model.specs.Faults.{Targets, Kind, is_part, first_that, is_zone_entry, is_unison, is_restrike, is_bend, is_unmapped, is_out_of_device}
+use Rattle.retune_model.specs.Faults.{Targets, is_part, is_zone_entry, is_unison, is_restrike, is_bend, is_unmapped, is_out_of_device}
 use Rattle.retune_model.specs.SourceFaults.{beyond_after, message_tests, kind_in}
 use Rattle.retune_model.specs.FaultLaws.{OnlyZoneEntriesAskForZones}
 use Rattle.retune_model.specs.PlaysTheSame.{Pairwise}
@@ -21,22 +20,13 @@ use Rattle.bend_laws.specs.Follows.{IsPlayedBy, IsMatched}
 use Rattle.bend_laws.proofs.Lists.{pair_second}
 use Rattle.bend_laws.proofs.Bringing.{KeysFit}
 use Rattle.bend_laws.proofs.Keys.{aim_fits}
+use Rattle.retune_model.proofs.Faulty.{none_holds}
 
 pub record Laws (Good : State → Type 0) : Type 0 where
   pub bringing : BringReaches Good
   pub settle : EventsSettle
   pub fade : NotesFade
   pub zones : OnlyZoneEntriesAskForZones
-
--- where none of the tests is the first to hold, none holds
-pub none_holds : (xs : List (Kind × Bool)) → first_that xs ≡ None → AllByRecursion (λ x. x.1 ≡ false) xs
-none_holds [] e = tt
-none_holds (x ∷ xs) e = pick x.1 refl e (none_holds xs)
-  where
-    pick : (b : Bool) → x.1 ≡ b → cond b (Some x.0) (first_that xs) ≡ None → (first_that xs ≡ None →
-        AllByRecursion (λ (y : Kind × Bool). y.1 ≡ false) xs) → (x.1 ≡ false) × AllByRecursion (λ (y : Kind × Bool). y.1 ≡ false) xs
-    pick true h k rest = absurd cc
-    pick false h k rest = (h, rest k)
 
 -- what a message without a fault is not
 pub record IsFine (port : ℕ) (o : Options) (table : Targets) (m after : Music) (pairs : List Pair) (t : ℕ) (msg : Msg) : Type 0 where

@@ -25,7 +25,7 @@ use Rattle.bend_laws.proofs.Outputs.{source_played}
 
 -- ---- resets
 
-abbrev resets_if : Option MidiEvent → Bool
+abbrev pub resets_if : Option MidiEvent → Bool
 resets_if (Some e) = resets (doing e.what)
 resets_if None = false
 

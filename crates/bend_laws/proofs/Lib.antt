@@ -44,6 +44,7 @@ pub mod Sending
 pub mod Short
 pub mod Shown
 pub mod Simulates
+pub mod Sounding
 pub mod Spelled
 pub mod States
 pub mod Stepping

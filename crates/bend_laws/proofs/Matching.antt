@@ -22,7 +22,7 @@ use Rattle.bend_laws.proofs.Keys.{Finds, all_find}
 
 -- ---- a note that is turned
 
-sounded : (t x y h : ℕ) (r : Option (ℕ × ℕ)) (k : Bool) (e : Option ℕ) → not (is_some (turned_ended t x y h r k e)) ≡ true → not (is_some e) ≡ true
+pub sounded : (t x y h : ℕ) (r : Option (ℕ × ℕ)) (k : Bool) (e : Option ℕ) → not (is_some (turned_ended t x y h r k e)) ≡ true → not (is_some e) ≡ true
 sounded t x y h r k None s = refl
 sounded t x y h r k (Some e) s = s
 
@@ -206,7 +206,7 @@ matched_turned port o table k c t src after out w turn a b seen =
           ∙ p in played_turned port o table k c t src after out w turn a b seen (seen.0.0.0.played q) q);
     }
 
-all_unmap : (P : Note → Type 0) (f : Note → Note) (ns : List Note) → AllByRecursion P (map f ns) → AllByRecursion (λ n. P (f n)) ns
+pub all_unmap : (P : Note → Type 0) (f : Note → Note) (ns : List Note) → AllByRecursion P (map f ns) → AllByRecursion (λ n. P (f n)) ns
 all_unmap P f [] h = tt
 all_unmap P f (n ∷ ns) h = (h.0, all_unmap P f ns h.1)
 

@@ -17,7 +17,8 @@ use Rattle.bend_laws.proofs.Ticks.{AreTimely}
 use Rattle.bend_laws.proofs.Given.{Laws}
 use Rattle.bend_laws.proofs.Bridge.{ReceiversStay}
 use Rattle.bend_laws.proofs.Ticking.{same_notes}
-use Rattle.bend_laws.proofs.Pitching.{PitchLaws, Scales}
+use Rattle.bend_laws.proofs.Pitching.{Scales}
+use Rattle.retune_model.proofs.Laws.{PitchLaws}
 use Rattle.bend_laws.proofs.Hearing.{same_sound}
 use Rattle.bend_laws.proofs.Untuning.{is_untuned}
 use Rattle.bend_laws.proofs.Opening.{begins_same}

@@ -41,7 +41,7 @@ use Rattle.bend_laws.proofs.Simulates.{source_is, sound_at, follows_at}
 use Rattle.bend_laws.proofs.Planned.{NoNote, NoNotes, part_none, setup_none, is_note}
 use Rattle.bend_laws.proofs.Shown.{begun_there}
 use Rattle.bend_laws.proofs.Outputs.{none_yet, numbered_at, one_more, events_if, event_listed, out_is, source_is_played, blocks_are}
-use Rattle.bend_laws.proofs.Ticking.{music_all}
+use Rattle.midi_model.proofs.Same.{music_all}
 use Rattle.bend_laws.proofs.Pitching.{Scales}
 use Rattle.bend_laws.proofs.Hearing.{sound_at_position}
 use Rattle.bend_laws.proofs.Untuning.{all_receive, blocks_quiet}

@@ -10,7 +10,6 @@ use Rattle.mt_base.specs.declared.event.Msg.{Msg}
 use Rattle.mt_base.specs.declared.event.Msg.TheVariants.{NoteOn, NoteOff, KeyPressure, Control, Program, Pressure, Bend}
 use Rattle.mt_base.specs.Midi.{channel_of}
 use Rattle.mt_base.specs.Pitch.{Pitch, exactly, added, Within}
-use Rattle.mt_base.specs.Laws.{LeastOfSum, MostOfSum, LeastOfExact, MostOfExact, LeastOfLess, MostOfMore}
 use Rattle.midi_model.specs.Sysex.{Plays}
 use Rattle.midi_model.specs.Params.{value_of, rpn}
 use Rattle.midi_model.specs.Channel.{Channel}
@@ -21,7 +20,7 @@ use Rattle.midi_model.specs.MusicLaws.{IsSettled, begun_by, NotesFade}
 use Rattle.midi_model.specs.Tuning.{selected_of}
 use Rattle.midi_model.specs.Receiver.{Receiver}
 use Rattle.midi_model.specs.Played.{played, by_program, fine, coarse, bent, bends}
-use Rattle.retune_model.specs.Table.{Scaling, pitch_at, terms_at, ratios_at_key, Bounds, AreBounds, Bound, IsTable, AreFewTerms, BendTarget, bend_target}
+use Rattle.retune_model.specs.Table.{Scaling, terms_at, ratios_at_key, Bounds, AreBounds, IsTable, AreFewTerms, BendTarget, bend_target}
 use Rattle.retune_model.specs.Options.{Route, ByBend, Options, half_step, bound}
 use Rattle.retune_model.specs.Source.{bend_in_steps, moved, heard_if, source_pitch}
 use Rattle.retune_model.specs.PlaysTheSame.{IsWithin, bend_target_if}
@@ -37,15 +36,8 @@ use Rattle.bend_laws.proofs.Keys.{same_aim}
 use Rattle.bend_laws.proofs.Elsewhere.{GoesOn, goes_on}
 use Rattle.bend_laws.proofs.Fading.{faded}
 use Rattle.bend_laws.proofs.Steps.{more_steps, not_cut, IsNear, near}
-
--- the laws of pitches
-pub record PitchLaws : Type 0 where
-  pub least_of_sum : LeastOfSum
-  pub most_of_sum : MostOfSum
-  pub least_of_exact : LeastOfExact
-  pub most_of_exact : MostOfExact
-  pub least_of_less : LeastOfLess
-  pub most_of_more : MostOfMore
+use Rattle.retune_model.proofs.Heard.{has_pitch, HasPitch}
+use Rattle.retune_model.proofs.Laws.{PitchLaws}
 
 -- ---- within the bound
 
@@ -111,24 +103,6 @@ bent_is range q cs co h =
 
     away : (z : ℤ) → (pos 8192 +ℤ z) -ℤ pos 8192 ≡ z
     away z = omega (arith, ints)
-
--- the bounds of a key that has some are those of its pitch
-pub record HasPitch (scaling : Scaling) (k t : ℕ) (b : Bounds) : Type 0 where
-  pub pitch : Pitch
-  pub is : pitch_at scaling k t ≡ Some pitch
-  pub bounds : AreBounds pitch (terms_at scaling k t) (ratios_at_key scaling k t) b
-
-pub has_pitch : (scaling : Scaling) (table : Targets) (k t : ℕ) (b : Bounds) → IsTable scaling table → k < 128 → table k t ≡ Some b →
-    HasPitch scaling k t b
-has_pitch scaling table k t b is low e =
-    let h : Bound (terms_at scaling k t) (ratios_at_key scaling k t) (pitch_at scaling k t) (Some b) =
-    subst (λ x. Bound (terms_at scaling k t) (ratios_at_key scaling k t) (pitch_at scaling k t) x) e (is.bounds k t (omega (arith, low))) in
-    pick (pitch_at scaling k t) refl h
-  where
-    pick : (p : Option Pitch) → pitch_at scaling k t ≡ p → Bound (terms_at scaling k t) (ratios_at_key scaling k t) p (Some b) →
-        HasPitch scaling k t b
-    pick None x y = absurd y
-    pick (Some p) x y = record { pitch = p; is = x; bounds = y }
 
 -- ---- one note
 

@@ -1,23 +1,19 @@
 -- What is asked of the runs of a port holds of a source without a fault and a plan of its port.
-use Rattle.std.proofs.Common.{◌≡◌, ◌<◌, ◌≤◌, ◌&&◌, ℕ, zero, suc, ℤ, pos, negsuc, nat_eq, nat_lt, Bool, true, false, cond, List, [], ◌∷◌, Option, Some, None, refl, ap, sym, ◌∙◌, subst, filter, length, get_or, arith, inl, inr}
+use Rattle.std.proofs.Common.{◌≡◌, ◌<◌, ◌≤◌, ◌&&◌, ℕ, zero, suc, ℤ, pos, negsuc, nat_eq, nat_lt, Bool, true, false, cond, List, [], ◌∷◌, None, refl, ap, sym, ◌∙◌, subst, filter, length, get_or, arith, inl, inr}
 use Rattle.std.specs.List.{AllByRecursion, IsDistinct}
 use Rattle.std.specs.Set.{is_member}
 use Rattle.std.proofs.lemmas.Bool.{both_ways, or_cases, and_left, and_right, and_parts, ne_eqb, ltb-true}
-use Rattle.mt_base.specs.declared.event.Msg.TheVariants.{NoteOn, NoteOff, KeyPressure, Control, Program, Pressure, Bend}
-use Rattle.mt_base.specs.Valid.{IsValidEvent}
-use Rattle.mt_base.specs.Midi.{MidiWhat, Says, SysexOf, MetaOf, MidiEvent}
+use Rattle.mt_base.specs.Midi.{MidiEvent}
 use Rattle.midi_model.specs.WellFormed.{IsWellFormed}
-use Rattle.midi_model.specs.Notes.{Note, sounds}
+use Rattle.midi_model.specs.Notes.{Note}
 use Rattle.midi_model.specs.Music.{Music}
-use Rattle.retune_model.specs.Table.{BendTarget}
 use Rattle.retune_model.specs.Options.{Options}
-use Rattle.retune_model.specs.Ports.{Numbered, PortEvents, all_zero, of_port, port_at, unnumbered, music_at, event_at, resets}
-use Rattle.retune_model.specs.PlaysTheSame.{bend_target_if}
-use Rattle.retune_model.specs.Faults.{Targets, is_part, int_eq, target_of}
+use Rattle.retune_model.specs.Ports.{Numbered, PortEvents, all_zero, of_port, port_at, music_at, event_at, resets}
+use Rattle.retune_model.specs.Faults.{Targets, is_part, int_eq}
 use Rattle.retune_model.specs.SourceFaults.{kind_in, kind_behind}
-use Rattle.retune_model.specs.Pairs.{Part, Pair, is_same_part, is_same_pair, int_lt, is_earlier_part, is_before, pair_if}
+use Rattle.retune_model.specs.Pairs.{Part, Pair, is_same_part, is_same_pair, int_lt, is_earlier_part, is_before}
 use Rattle.retune_model.specs.PairOrder.{AreOrdered}
-use Rattle.retune_model.specs.Rests.{notes_at, nobody, steps_of, pair_of, pairs_at, held_at, begun_pair, begun_pairs, IsAimedPort}
+use Rattle.retune_model.specs.Rests.{notes_at, nobody, pairs_at, held_at, begun_pairs, IsAimedPort}
 use Rattle.retune_model.specs.RestLaws.{PairsAreOfNotes, OneRunBegins, HeldWasThere, SoundingIsHeld, HeldOrBegun, ResetsEndAll}
 use Rattle.retune_model.specs.Runs.{since, OneBegins}
 use Rattle.retune_model.specs.PortNeed.{pairs_on, held_on}
@@ -25,21 +21,21 @@ use Rattle.retune_model.specs.PortLaws.{PortsAreTimed}
 use Rattle.retune_model.specs.FaultLaws.{SoundPortsAreAimed, FaultlessPorts}
 use Rattle.channel_model.specs.Rows.{used_row, IsBendPlan}
 use Rattle.channel_model.specs.Laws.{ShortestIsFree}
-use Rattle.channel_model.specs.BendOutput.{pair_with, runs_on}
+use Rattle.channel_model.specs.BendOutput.{runs_on}
 use Rattle.state_laws.specs.StateLaws.{StaysWellFormedWith}
-use Rattle.bend_laws.specs.Follows.{Has, IsAmong, SoundAmong, Begins}
+use Rattle.bend_laws.specs.Follows.{Has, SoundAmong}
 use Rattle.bend_laws.specs.Positions.{port_event}
-use Rattle.bend_laws.proofs.Planning.{source_at, BeginsIf, IsPlanned}
+use Rattle.bend_laws.proofs.Planning.{source_at, IsPlanned}
 use Rattle.bend_laws.proofs.Ticks.{AreTimely}
 use Rattle.bend_laws.specs.Bent.{uses, IsBentPort, IsBent}
-use Rattle.bend_laws.proofs.Equal.{same_pair}
 use Rattle.bend_laws.proofs.Lists.{all_weaker}
-use Rattle.bend_laws.proofs.Outputs.{events_if, source_played}
+use Rattle.bend_laws.proofs.Outputs.{source_played}
 use Rattle.bend_laws.proofs.Bridge.{OneSounds, ReceiversStay}
 use Rattle.bend_laws.proofs.Wellness.{AreValidTo, wanted_at}
 use Rattle.bend_laws.proofs.Rows.{lane_used, lane_apart}
 use Rattle.bend_laws.proofs.Runs.{since_kept, HasPlaces, has_places}
-use Rattle.bend_laws.proofs.Placing.{event_is, StandsAt, at_place, reset_here, all_of_port, port_within, port_order}
+use Rattle.bend_laws.proofs.Placing.{event_is, StandsAt, at_place, reset_here, port_within, port_order}
+use Rattle.bend_laws.proofs.Sounding.{sound_held, sound_there, begins_one, valid_port}
 
 -- nothing stands twice among the pairs that are held
 abbrev pub HeldStandOnce : Type 0
@@ -94,29 +90,10 @@ pub record PortFacts : Type 0 where
 
 -- ---- notes by their numbers
 
-by_index : (P : Note → Type 0) (xs : List Note) → ((i : ℕ) → i < length xs → P (get_or xs i nobody)) → AllByRecursion P xs
-by_index P [] h = tt
-by_index P (x ∷ xs) h = (h 0 (omega arith), by_index P xs (λ i l. h (suc i) (omega (arith, l))))
-
 at_number : (P : Note → Type 0) (xs : List Note) (i : ℕ) → AllByRecursion P xs → i < length xs → P (get_or xs i nobody)
 at_number P [] i h l = absurd (omega (arith, l))
 at_number P (x ∷ xs) zero h l = h.0
 at_number P (x ∷ xs) (suc i) h l = at_number P xs i h.1 (omega (arith, l))
-
--- what holds of each note of some parts
-unfiltered : (part : ℕ → Bool) (P : Note → Type 0) (ns : List Note) → AllByRecursion P (filter (λ (n : Note). part n.channel) ns) →
-    AllByRecursion (λ n. part n.channel ≡ true → P n) ns
-unfiltered part P [] h = tt
-unfiltered part P (n ∷ ns) h = pick (part n.channel) refl h (unfiltered part P ns)
-  where
-    rest : List Note
-    rest = filter (λ (x : Note). part x.channel) ns
-
-    pick : (b : Bool) → part n.channel ≡ b → AllByRecursion P (cond b (n ∷ rest) rest) → (AllByRecursion P rest →
-        AllByRecursion (λ x. part x.channel ≡ true → P x) ns) →
-        (part n.channel ≡ true → P n) × AllByRecursion (λ x. part x.channel ≡ true → P x) ns
-    pick true e g f = ((λ p. g.0), f g.1)
-    pick false e g f = ((λ p. absurd (both_ways (part n.channel) e p)), f g)
 
 of_parts : (part : ℕ → Bool) (ns : List Note) → AllByRecursion (λ (n : Note). part n.channel ≡ true) (filter (λ (n : Note). part n.channel) ns)
 of_parts part [] = tt
@@ -132,73 +109,7 @@ of_parts part (n ∷ ns) = pick (part n.channel) refl (of_parts part ns)
 
 -- ---- what sounds holds its channel
 
-among_if : (z : ℕ) (ps : List Pair) (c : ℕ) (x : Option BendTarget) → (let p : Pair =
-    record { part = record { port = z; channel = c }; steps = steps_of x } in Has ps p) → IsAmong z ps c x
-among_if z ps c None h = tt
-among_if z ps c (Some t) h = h
-
-among_more : (z : ℕ) (ps qs : List Pair) → ((p : Pair) → Has ps p → Has qs p) → (c : ℕ) (x : Option BendTarget) → IsAmong z ps c x → IsAmong z qs c x
-among_more z ps qs f c None h = tt
-among_more z ps qs f c (Some t) h = f (pair_with z c t) h
-
-sound_held : SoundingIsHeld → (o : Options) (table : Targets) (port : PortEvents) → IsAimedPort o (is_part o) table port → (k : ℕ) →
-    SoundAmong port.number o table (held_at o (is_part o) table port (suc k)) (music_at port.events k).notes
-sound_held law o table port aimed k =
-    let ps : List Pair = held_at o (is_part o) table port (suc k) in
-    let z : ℕ = port.number in
-    all_weaker (λ n. is_part o n.channel ≡ true → sounds n ≡ true → Has ps (pair_of z o table n))
-    (λ n. is_part o n.channel ≡ true → sounds n ≡ true → IsAmong z ps n.channel (target_of o table n))
-    (λ n h part s. among_if z ps n.channel (target_of o table n) (h part s)) (music_at port.events k).notes
-    (unfiltered (is_part o) (λ n. sounds n ≡ true → Has ps (pair_of z o table n)) (music_at port.events k).notes
-    (by_index (λ n. sounds n ≡ true → Has ps (pair_of z o table n)) (notes_at (is_part o) port.events k)
-    (λ i l s. law o (is_part o) table port aimed k i (l, s))))
-
-sound_there : HeldWasThere → SoundingIsHeld → (o : Options) (table : Targets) (port : PortEvents) → IsAimedPort o (is_part o) table port → (k : ℕ) →
-    SoundAmong port.number o table (pairs_at o (is_part o) table port k) (music_at port.events k).notes
-sound_there within law o table port aimed k =
-    let ps : List Pair = held_at o (is_part o) table port (suc k) in
-    let qs : List Pair = pairs_at o (is_part o) table port k in
-    all_weaker (λ n. is_part o n.channel ≡ true → sounds n ≡ true → IsAmong port.number ps n.channel (target_of o table n))
-    (λ n. is_part o n.channel ≡ true → sounds n ≡ true → IsAmong port.number qs n.channel (target_of o table n))
-    (λ n h part s. among_more port.number ps qs (λ p i. within o (is_part o) table port aimed k p i) n.channel (target_of o table n) (h part s))
-    (music_at port.events k).notes (sound_held law o table port aimed k)
-
 -- ---- what an event begins
-
-begun_if : (z : ℕ) (o : Options) (t c j v : ℕ) (table : Targets) (x : Option BendTarget) (p : Pair) → bend_target_if o.range (table j t) ≡ x →
-    (b : Bool) → is_part o c ≡ b → Has (cond b (pair_if z c x []) []) p →
-    Begins z o table t (Says (NoteOn c j (suc v))) p
-begun_if z o t c j v table x p aim false part h = absurd (both_ways false refl h)
-begun_if z o t c j v table None p aim true part h = absurd (both_ways false refl h)
-begun_if z o t c j v table (Some y) p aim true part h = (
-  part,
-  (
-    y,
-    aim,
-    elim (or_cases (is_same_pair p (pair_with z c y)) false h) [
-      | inl e ↦ same_pair p (pair_with z c y) e
-      | inr e ↦ absurd (both_ways false refl e)
-    ],
-  ),
-)
-
-begins_pair : (z : ℕ) (o : Options) (table : Targets) (t : ℕ) (w : MidiWhat) (p : Pair) → Has (begun_pair z o (is_part o) table t w) p →
-    Begins z o table t w p
-begins_pair z o table t (Says (NoteOn c j zero)) p h = absurd (both_ways false refl h)
-begins_pair z o table t (Says (NoteOn c j (suc v))) p h = begun_if z o t c j v table (bend_target_if o.range (table j t)) p refl (is_part o c) refl h
-begins_pair z o table t (Says (NoteOff c j v)) p h = absurd (both_ways false refl h)
-begins_pair z o table t (Says (KeyPressure c j v)) p h = absurd (both_ways false refl h)
-begins_pair z o table t (Says (Control c n v)) p h = absurd (both_ways false refl h)
-begins_pair z o table t (Says (Program c x)) p h = absurd (both_ways false refl h)
-begins_pair z o table t (Says (Pressure c v)) p h = absurd (both_ways false refl h)
-begins_pair z o table t (Says (Bend c v)) p h = absurd (both_ways false refl h)
-begins_pair z o table t (SysexOf lead bytes) p h = absurd (both_ways false refl h)
-begins_pair z o table t (MetaOf kind bytes) p h = absurd (both_ways false refl h)
-
-begins_one : (z : ℕ) (o : Options) (table : Targets) (x : Option MidiEvent) (p : Pair) → Has (begun_pairs z o (is_part o) table (events_if x)) p →
-    BeginsIf z o table x p
-begins_one z o table None p h = both_ways false refl h
-begins_one z o table (Some e) p h = begins_pair z o table e.tick e.what p h
 
 -- ---- the pairs of a port
 
@@ -222,16 +133,6 @@ pub timely_port : PortsAreTimed → (o : Options) (allowed : ℕ → Bool) (tabl
     (channel : ℕ → ℕ → Pair → ℕ) → IsBent o allowed table es need channel → (z : ℕ) → AreTimely (of_port z es) (length es)
 timely_port timed o allowed table es need channel b z =
     record { rising = (timed z es b.sound.in_order).ascend; within = port_within z es; in_order = port_order 0 z all_zero 0 es b.sound.in_order }
-
-valid_port : (es : List MidiEvent) → AllByRecursion IsValidEvent es → (z last : ℕ) → AreValidTo (of_port z es) last
-valid_port es v z last k e low is =
-    let s : StandsAt (λ n. IsValidEvent n.event) (suc k) e = at_place (λ n. IsValidEvent n.event) (of_port z es)
-    (each (of_port z es) (all_of_port IsValidEvent z all_zero 0 es v)) (suc k) e is in
-    subst IsValidEvent s.event s.holds
-  where
-    each : (ns : List Numbered) → AllByRecursion IsValidEvent (unnumbered ns) → AllByRecursion (λ (n : Numbered). IsValidEvent n.event) ns
-    each [] h = tt
-    each (n ∷ ns) h = (h.0, each ns h.1)
 
 -- the places of the runs of a plan
 pub placed_on : PortFacts → (o : Options) (allowed : ℕ → Bool) (table : Targets) (es : List MidiEvent) (need : ℕ → ℕ)

@@ -22,7 +22,8 @@ use Rattle.bend_laws.specs.Moments.{left_after, moment, Both}
 use Rattle.bend_laws.specs.Follows.{Has}
 use Rattle.bend_laws.specs.Positions.{port_event, both_next, both_at}
 use Rattle.bend_laws.proofs.Planning.{source_next, source_at, IsPlanned}
-use Rattle.bend_laws.proofs.Given.{none_holds, IsFine, fine}
+use Rattle.bend_laws.proofs.Given.{IsFine, fine}
+use Rattle.retune_model.proofs.Faulty.{none_holds}
 use Rattle.bend_laws.proofs.Turned.{said}
 use Rattle.bend_laws.proofs.Altered.{all_default, is_resets}
 use Rattle.bend_laws.proofs.Still.{IsPassed, no_change, no_message}

@@ -25,7 +25,7 @@ use Rattle.bend_laws.proofs.Holding.{held_pair, IsIn, OnOwnChannels, all_at, hel
 use Rattle.bend_laws.proofs.Turned.{Stays, all_stay}
 use Rattle.bend_laws.proofs.Playing.{saying, saying_valid, reached_play, settled_reached}
 use Rattle.bend_laws.proofs.Keys.{apart_after}
-use Rattle.bend_laws.proofs.Matching.{output_sounds}
+use Rattle.bend_laws.proofs.Matching.{output_sounds, all_unmap}
 use Rattle.bend_laws.proofs.Altered.{end_or, ending_form, ending_channel, played_ended}
 use Rattle.bend_laws.proofs.Stepping.{follows_next, quiet_moment}
 use Rattle.bend_laws.proofs.Given.{Laws}
@@ -280,10 +280,6 @@ first_then r t out g gs n x y d i k =
           ∙ same);
       channel = k.channel ∙ c;
     }
-
-all_unmap : (P : Note → Type 0) (f : Note → Note) (ns : List Note) → AllByRecursion P (map f ns) → AllByRecursion (λ n. P (f n)) ns
-all_unmap P f [] h = tt
-all_unmap P f (n ∷ ns) h = (h.0, all_unmap P f ns h.1)
 
 pub all_sent : EventsSettle → (e : MidiEvent) (n v : ℕ) → e.tick < 2 ^ 28 → n ≤ 127 → v ≤ 127 → IsSent (role n) → (out : Music) (hs : List Held) →
     OnOwnChannels hs → AllByRecursion (λ h. h.channel < 16) hs → (m : Music) → m.zones ≡ no_zones → IsReached m → m.channels ≡ out.channels →

@@ -13,7 +13,7 @@ use Rattle.midi_model.specs.Zones.{no_zones, governor}
 use Rattle.midi_model.specs.Notes.{Note, sounds}
 use Rattle.midi_model.specs.Music.{Music, quiet, channel_at, step, play}
 use Rattle.midi_model.specs.Order.{AreInOrder}
-use Rattle.midi_model.specs.Receiver.{Receiver, start, receive, receive_all}
+use Rattle.midi_model.specs.Receiver.{Receiver, start}
 use Rattle.retune_model.specs.Options.{ByBend, Options, bends_notes}
 use Rattle.retune_model.specs.PlaysTheSame.{Pairwise, until, at_tick, retuned_notes, key_of, output_key, IsSameNote, state_of, HasSameNotes}
 use Rattle.retune_model.specs.Faults.{Targets, is_part, target_of}
@@ -33,6 +33,7 @@ use Rattle.bend_laws.proofs.Lists.{all_weaker, all_append, map_append, pair_weak
 use Rattle.bend_laws.proofs.Given.{Laws}
 use Rattle.bend_laws.proofs.Shown.{plays_at}
 use Rattle.bend_laws.proofs.Outputs.{none_yet, output_append, out_is, source_is_played, blocks_are}
+use Rattle.midi_model.proofs.Same.{music_all}
 
 -- ---- the events up to a tick, and those later
 
@@ -141,10 +142,6 @@ until_output t o table plan xs ys h g =
     (output_ticks (λ x. t < x) o table plan _ _ ys g)
 
 -- ---- the musics at a tick are those at a position
-
-pub music_all : (r : Receiver) (es : List MidiEvent) → (receive_all r es).music ≡ play r.music es
-music_all r [] = refl
-music_all r (e ∷ es) = music_all (receive r e) es
 
 pub record AtPosition (o : Options) (table : Targets) (plan : PortRuns) (ns : List Numbered) (last t : ℕ) : Type 0 where
   pub position : ℕ

@@ -45,7 +45,8 @@ use Rattle.bend_laws.proofs.Elsewhere.{drum_block}
 use Rattle.bend_laws.proofs.Simulates.{source_is, sound_at, follows_at}
 use Rattle.bend_laws.proofs.Shown.{begun_there}
 use Rattle.bend_laws.proofs.Outputs.{out_is}
-use Rattle.bend_laws.proofs.Ticking.{music_all, AtPosition, at_position}
+use Rattle.bend_laws.proofs.Ticking.{AtPosition, at_position}
+use Rattle.midi_model.proofs.Same.{music_all}
 use Rattle.bend_laws.proofs.Bridge.{same_events, well_reached, ReceiversStay}
 
 abbrev pub IsQuietOn : (ℕ → Bool) → Tuning → Type 0

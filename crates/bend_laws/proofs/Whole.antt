@@ -12,7 +12,7 @@ use Rattle.state_laws.specs.Sent.{SendsValidOnes}
 use Rattle.state_laws.specs.HeardLaws.{Plays}
 use Rattle.state_laws.specs.StateLaws.{ReceiversAreWellFormed, EachChannelIs}
 use Rattle.bend_laws.proofs.Given.{Laws}
-use Rattle.bend_laws.proofs.Ticking.{music_all}
+use Rattle.midi_model.proofs.Same.{music_all}
 use Rattle.bend_laws.proofs.Bridge.{OneSounds, ReceiversStay, receivers_stay, bring_reaches}
 
 -- as the receiver's law says it

@@ -28,10 +28,10 @@ use Rattle.channel_model.specs.Laws.{ShortestMemberIsFree, ZonedPorts}
 use Rattle.channel_model.specs.MpeOutput.{Zone, member_at, members_from, zone_of, lower_allowed, upper_allowed, unzoned, zoned_block, next_zoned, mpe_output}
 use Rattle.channel_model.specs.Rows.{only, zone_row, zones_on}
 use Rattle.bend_laws.specs.Simulation.{planned_channels}
-use Rattle.bend_laws.proofs.Drumless.{NoDrums, none_has, either}
+use Rattle.bend_laws.proofs.Drumless.{NoDrums, none_has, either, and_true}
 use Rattle.bend_laws.proofs.Opening.{all_up}
 use Rattle.bend_laws.proofs.Placing.{port_within}
-use Rattle.bend_laws.proofs.Ticking.{music_all}
+use Rattle.midi_model.proofs.Same.{music_all}
 use Rattle.mpe_laws.specs.FileLaws.{PortsAreTheirBlocks, PortsAreOnTheirChannels, ZonedIsOnZones, PlansServe}
 use Rattle.mpe_laws.specs.Positions.{zoned_at}
 use Rattle.mpe_laws.specs.Sources.{on_port, AreAllowed, IsMpe, in_its_zone, zoned_channel, IsPlannedMpe}
@@ -299,10 +299,6 @@ agree_drumless a b (n ∷ ns) h = (by_what n.event.what h.0, agree_drumless a b 
     by_what (Says m) g = either b a (channel_of m) g
     by_what (SysexOf lead bytes) g = tt
     by_what (MetaOf kind bytes) g = tt
-
-and_true : (a b : Bool) → b ≡ true → (a && b) ≡ a
-and_true true b h = h
-and_true false b h = refl
 
 still_part : (keep has : Bool) (c : ℕ) → is_retuned keep c ≡ true → is_retuned (keep && has) c ≡ true
 still_part true true c h = h

@@ -29,7 +29,8 @@ use Rattle.bend_laws.proofs.Changing.{said_at}
 use Rattle.bend_laws.proofs.Elsewhere.{no_entry, drum_begins, drum_apart}
 use Rattle.mpe_laws.specs.Zoned.{planned, AreZones}
 use Rattle.mpe_laws.specs.Follows.{Follows, IsGiven}
-use Rattle.mpe_laws.proofs.Ops.{Governed, sustains, sustains_form, releasing_channel, governed_moved, zoned_moved}
+use Rattle.mpe_laws.proofs.Ops.{Governed, sustains, sustains_form, governed_moved, zoned_moved}
+use Rattle.bend_laws.proofs.Elsewhere.{releasing_channel}
 use Rattle.mpe_laws.proofs.Steering.{zonal}
 use Rattle.mpe_laws.proofs.Standing.{Laws, all_governed, Stands, still_follows, told, channels_told, source_told, out_told, part_block}
 use Rattle.mpe_laws.proofs.Forwarding.{Settles, notes_told, masters_told, settled_told}

@@ -26,7 +26,7 @@ use Rattle.bend_laws.proofs.Playing.{saying, saying_append}
 use Rattle.bend_laws.proofs.Changing.{said_at}
 use Rattle.bend_laws.proofs.Outputs.{none_yet, events_if, source_played}
 use Rattle.bend_laws.proofs.Planned.{NoNote, NoNotes, both_none, is_note}
-use Rattle.bend_laws.proofs.Ticking.{music_all}
+use Rattle.midi_model.proofs.Same.{music_all}
 use Rattle.bend_laws.proofs.Untuning.{all_receive}
 use Rattle.bend_laws.proofs.Opening.{HeardAlike, StartAlike, begin_append, none_begins, no_beginnings, drum_begins, one_none, neither, struck_alike, events_longer, all_up}
 use Rattle.mpe_laws.specs.Follows.{Follows, IsGiven}

@@ -32,7 +32,7 @@ use Rattle.bend_laws.proofs.Planning.{BeginsIf}
 use Rattle.mpe_laws.specs.Sources.{AreAllowed, HasZonePlan, in_its_zone, IsPlannedMpe}
 use Rattle.mpe_laws.specs.FileLaws.{PlansServe}
 use Rattle.mpe_laws.proofs.Allowed.{its_part}
-use Rattle.mpe_laws.proofs.Sounding.{begins_one, valid_port}
+use Rattle.bend_laws.proofs.Sounding.{begins_one, valid_port}
 
 -- what is cited of pairs and faults
 pub record Cited : Type 0 where

@@ -13,7 +13,7 @@ use Rattle.retune_model.specs.Faults.{Targets, is_part, is_poly}
 use Rattle.retune_model.specs.SourceFaults.{message_tests, kind_in}
 use Rattle.channel_model.specs.MpeOutput.{Zone, zone_of, mpe_block}
 use Rattle.bend_laws.specs.Moments.{Moment}
-use Rattle.bend_laws.proofs.Given.{none_holds}
+use Rattle.retune_model.proofs.Faulty.{none_holds}
 use Rattle.bend_laws.proofs.Changing.{said_at}
 use Rattle.bend_laws.proofs.Still.{port_event}
 use Rattle.mpe_laws.specs.Zoned.{AreZones, SetsUp}

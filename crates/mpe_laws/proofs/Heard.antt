@@ -30,7 +30,9 @@ use Rattle.bend_laws.specs.Simulation.{retuned}
 use Rattle.bend_laws.proofs.Lists.{pair_weaker, pair_along}
 use Rattle.bend_laws.proofs.States.{played_retuned}
 use Rattle.bend_laws.proofs.Steps.{not_cut}
-use Rattle.bend_laws.proofs.Pitching.{PitchLaws, HasPitch, has_pitch, bounds_of, heard_within, pitch_by}
+use Rattle.bend_laws.proofs.Pitching.{bounds_of, heard_within, pitch_by}
+use Rattle.retune_model.proofs.Heard.{HasPitch, has_pitch}
+use Rattle.retune_model.proofs.Laws.{PitchLaws}
 use Rattle.bend_laws.proofs.Planning.{source_at}
 use Rattle.bend_laws.proofs.Ticks.{AreTimely}
 use Rattle.bend_laws.proofs.Ticking.{own_state}

@@ -34,11 +34,12 @@ use Rattle.mpe_laws.proofs.Everywhere.{quiet_settled, given_at, follows_at, sour
 use Rattle.mpe_laws.proofs.Opened.{zoned_if, zoned_to, played_to, Opened, opens, known_at}
 use Rattle.mpe_laws.proofs.Ported.{PortFacts, InZone, in_zone}
 use Rattle.mpe_laws.proofs.Left.{block_bends}
+use Rattle.bend_laws.proofs.Leaving.{resets_if}
 
 -- ---- what is on a place
 
 -- the pair that is on a place is there, and its place is that one
-on_found : (f : Pair → ℕ) (i : ℕ) (ps : List Pair) (p : Pair) → on_place f i ps ≡ Some p → Has ps p × (f p ≡ i)
+pub on_found : (f : Pair → ℕ) (i : ℕ) (ps : List Pair) (p : Pair) → on_place f i ps ≡ Some p → Has ps p × (f p ≡ i)
 on_found f i [] p h = absurd cc
 on_found f i (q ∷ qs) p h = pick (nat_eq (f q) i) refl h (on_found f i qs p)
   where
@@ -63,7 +64,7 @@ none_found f i (q ∷ qs) p h m = pick (nat_eq (f q) i) refl h (λ g k. none_fou
     ]
 
 -- a pair that passes a test is among all, and the test holds
-from_filter : (f : Pair → Bool) (ps : List Pair) (p : Pair) → Has (filter f ps) p → Has ps p × (f p ≡ true)
+pub from_filter : (f : Pair → Bool) (ps : List Pair) (p : Pair) → Has (filter f ps) p → Has ps p × (f p ≡ true)
 from_filter f [] p h = absurd (both_ways false refl h)
 from_filter f (q ∷ qs) p h = pick (f q) refl h (from_filter f qs p)
   where
@@ -76,10 +77,6 @@ from_filter f (q ∷ qs) p h = pick (f q) refl h (from_filter f qs p)
     pick false e g later = let r = later g in (or_right (is_same_pair p q) (is_member is_same_pair qs p) r.0, r.1)
 
 -- ---- resets at positions
-
-abbrev resets_if : Option MidiEvent → Bool
-resets_if (Some e) = resets (doing e.what)
-resets_if None = false
 
 none_reset : (m : ℕ) (ns : List Numbered) → Ascend m ns → (k : ℕ) → k ≤ m → is_reset_at ns k ≡ false
 none_reset m [] r k l = refl
@@ -187,7 +184,7 @@ taken_left laws o options table es zones channel z c w i l k low p is =
     ap (λ d. (channel_at s.out d).bend) (sym lane) ∙ bent
     ∙ sym (ap (λ y. member_bend (last_or (suc k) y (reset (suc k)) (last_on reset at l.plan.row i k))) is)
 
-member_last : (k : ℕ) (b : Bool) (before : Option (ℕ × Pair)) → member_bend (last_or k None b before) ≡ cond b 8192 (member_bend before)
+pub member_last : (k : ℕ) (b : Bool) (before : Option (ℕ × Pair)) → member_bend (last_or k None b before) ≡ cond b 8192 (member_bend before)
 member_last k true before = refl
 member_last k false before = refl
 

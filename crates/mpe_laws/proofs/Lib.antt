@@ -14,7 +14,6 @@ pub mod Planning
 pub mod Everywhere
 pub mod Allowed
 pub mod Played
-pub mod Sounding
 pub mod Ported
 pub mod Ticked
 pub mod Bending

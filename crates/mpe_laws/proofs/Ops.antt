@@ -18,6 +18,7 @@ use Rattle.bend_laws.proofs.Lifting.{down_alike}
 use Rattle.bend_laws.proofs.Matching.{output_sounds}
 use Rattle.mpe_laws.specs.Zoned.{planned}
 use Rattle.mpe_laws.specs.Follows.{IsZoned}
+use Rattle.bend_laws.proofs.Elsewhere.{releasing_channel}
 
 -- the zone of a note's part, which governs the output's note
 pub record IsGoverned (zones : List Zone) (a b : Note) : Type 0 where
@@ -107,9 +108,6 @@ ends_op port o table place t = record {
 abbrev pub releases : ℕ → ℕ → Bool → Note → Note
 releases t v h n = cond h (releasing t v n) n
 
-pub releasing_channel : (t v : ℕ) (n : Note) → (releasing t v n).channel ≡ n.channel
-releasing_channel t v n = cond_both (is_down n) (record n { release = Some (t, v) }) n (λ (y : Note). y.channel ≡ n.channel) (λ e. refl) (λ e. refl)
-
 releasing_pressure : (t v : ℕ) (n : Note) → (releasing t v n).pressure ≡ n.pressure
 releasing_pressure t v n = cond_both (is_down n) (record n { release = Some (t, v) }) n (λ (y : Note). y.pressure ≡ n.pressure) (λ e. refl)
     (λ e. refl)
@@ -169,7 +167,7 @@ captured_alike : (x v : ℕ) (r s : Option (ℕ × ℕ)) (k l : Bool) (e f : Opt
     turned_captured x v s l f ≡ turned_captured x v r k e
 captured_alike x v r s k l e f b d i = cc
 
-and_false : (b : Bool) → (b && false) ≡ false
+pub and_false : (b : Bool) → (b && false) ≡ false
 and_false true = refl
 and_false false = refl
 

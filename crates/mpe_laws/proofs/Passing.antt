@@ -1,9 +1,7 @@
 -- Resets, with the setup behind them; and what is no message.
 use Rattle.std.proofs.Common.{◌≡◌, ℕ, Bool, true, false, not, List, [], ◌∷◌, ◌++◌, Option, Some, None, is_some, refl, ap, sym, ◌∙◌, subst, map}
 use Rattle.std.specs.List.{AllByRecursion}
-use Rattle.std.specs.Set.{is_member}
-use Rattle.std.proofs.lemmas.Bool.{both_ways}
-use Rattle.retune_model.specs.Pairs.{Pair, is_same_pair}
+use Rattle.retune_model.specs.Pairs.{Pair}
 use Rattle.mt_base.specs.Midi.{MidiWhat, Says, SysexOf, MetaOf, MidiEvent}
 use Rattle.midi_model.specs.Sysex.{Doing, Plays, Resets, Tunes, Nothing, doing}
 use Rattle.midi_model.specs.Channel.{Channel, default_channel}
@@ -22,7 +20,7 @@ use Rattle.bend_laws.specs.Follows.{Has, IsMatched, AreApart}
 use Rattle.bend_laws.proofs.Lists.{pair_map, all_mapped}
 use Rattle.bend_laws.proofs.Playing.{settled_play}
 use Rattle.bend_laws.proofs.Keys.{apart_after}
-use Rattle.bend_laws.proofs.Altered.{end_or, ending_form, ending_channel, matched_ended, is_resets, all_default}
+use Rattle.bend_laws.proofs.Altered.{end_or, ending_form, ending_channel, matched_ended, is_resets, all_default, nothing_there}
 use Rattle.bend_laws.proofs.Still.{port_event, IsPassed, no_change, no_message, none_passed}
 use Rattle.mpe_laws.specs.Zoned.{member_state, AreZones, IsSetUp, SetsUp, at_defaults}
 use Rattle.mpe_laws.specs.Follows.{IsZoned, Follows, IsGiven}
@@ -117,9 +115,6 @@ set_up_follows laws port o table zones place there m y ns set settled notes zone
   out_zones = set.zones_are;
   out_settled = settled;
 }
-
-nothing_there : (k : Moment) (p : Pair) → k.is ≡ [] → Has k.is p → ⊥
-nothing_there k p h i = both_ways false refl (ap (λ ps. is_member is_same_pair ps p) (sym h) ∙ i)
 
 pub reset_follows : Laws → (port : ℕ) (o : Options) (table : Targets) (zones : List Zone) → AreZones o zones → SetsUp o zones → (k : Moment)
     (m x : Music) (t track : ℕ) (w : MidiWhat) → IsPassed w → resets (doing w) ≡ true →

@@ -27,7 +27,7 @@ use Rattle.bend_laws.proofs.Outputs.{source_played}
 use Rattle.bend_laws.proofs.Wellness.{AreValidTo}
 use Rattle.bend_laws.proofs.Runs.{since_kept, HasPlaces, has_places}
 use Rattle.bend_laws.proofs.Placing.{event_is, StandsAt, at_place, reset_here}
-use Rattle.mpe_laws.proofs.Sounding.{sound_held, sound_there, begins_one, valid_port}
+use Rattle.bend_laws.proofs.Sounding.{sound_held, sound_there, begins_one, valid_port}
 use Rattle.midi_model.specs.Zones.{master}
 use Rattle.mpe_laws.specs.Zoned.{planned, IsMember}
 use Rattle.mpe_laws.specs.Sources.{HasZonePlan, IsZonedPort, IsMpe}

@@ -21,7 +21,7 @@ use Rattle.bend_laws.proofs.Lists.{all_append}
 use Rattle.bend_laws.proofs.Turned.{said}
 use Rattle.bend_laws.proofs.Playing.{saying, saying_append, settled_play}
 use Rattle.bend_laws.proofs.Changing.{said_at}
-use Rattle.bend_laws.proofs.Ticking.{music_all}
+use Rattle.midi_model.proofs.Same.{music_all}
 use Rattle.bend_laws.proofs.Untuning.{all_receive}
 use Rattle.mpe_laws.specs.Zoned.{planned, IsOfZone}
 use Rattle.mpe_laws.proofs.Standing.{Laws}

@@ -32,7 +32,7 @@ use Rattle.bend_laws.proofs.Altered.{ending_form}
 use Rattle.bend_laws.proofs.Given.{IsFine, fine}
 use Rattle.bend_laws.proofs.Changing.{said_at}
 use Rattle.bend_laws.proofs.Striking.{new_note, struck, strikes_note, cut_channel, cut_silent, some_if, IsAside, any_false, two_false, not_both, struck_apart}
-use Rattle.bend_laws.proofs.Beginning.{Strike, Held_note, cut_match, last_of}
+use Rattle.bend_laws.proofs.Beginning.{Strike, Held_note, cut_match, last_of, front_of}
 use Rattle.mpe_laws.specs.Zoned.{planned, member_state, AreZones, IsMember}
 use Rattle.mpe_laws.specs.Follows.{IsZoned, Follows, IsGiven}
 use Rattle.mpe_laws.proofs.Ops.{Governed, zoned_moved, governed_moved, sounded}
@@ -195,10 +195,6 @@ cut_pair port o table zones k t c j x w a b (g, held) =
     }
 
 -- ---- the event
-
-front_of : (P : Note → Type 0) (f : Note → Note) (ns xs : List Note) → AllByRecursion P (map f ns ++ xs) → AllByRecursion (λ n. P (f n)) ns
-front_of P f [] xs h = tt
-front_of P f (n ∷ ns) xs h = (h.0, front_of P f ns xs h.1)
 
 pub strike_follows : Laws → (port : ℕ) (o : Options) (table : Targets) (zones : List Zone) → AreZones o zones → (k : Moment) (m x : Music)
     (t track c j v : ℕ) → is_part o c ≡ true →

@@ -22,7 +22,8 @@ use Rattle.bend_laws.proofs.Lists.{all_append, map_append, pair_weaker}
 use Rattle.bend_laws.proofs.Outputs.{source_played}
 use Rattle.bend_laws.proofs.States.{played_retuned}
 use Rattle.bend_laws.proofs.Ticks.{AreTimely}
-use Rattle.bend_laws.proofs.Ticking.{Split, split, last_from, up_to_last, last_within, until_split, ticks_of, block_ticks, music_all}
+use Rattle.bend_laws.proofs.Ticking.{Split, split, last_from, up_to_last, last_within, until_split, ticks_of, block_ticks}
+use Rattle.midi_model.proofs.Same.{music_all}
 use Rattle.mpe_laws.specs.Positions.{zoned_at, FollowsAt}
 use Rattle.mpe_laws.proofs.Everywhere.{source_is}
 use Rattle.mpe_laws.proofs.Played.{zoned_over, out_is}

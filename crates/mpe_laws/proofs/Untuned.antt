@@ -27,11 +27,11 @@ use Rattle.channel_model.specs.BendOutput.{PortRuns, pair_with, placed_at, press
 use Rattle.channel_model.specs.MpeOutput.{Zone, Zoned, zone_of, master_of, zones_setup, member_begins, zone_causes, in_zone, setup_behind, mpe_block}
 use Rattle.bend_laws.specs.Moments.{Moment, moment}
 use Rattle.bend_laws.specs.Positions.{port_event}
-use Rattle.bend_laws.proofs.Given.{none_holds}
+use Rattle.retune_model.proofs.Faulty.{none_holds}
 use Rattle.bend_laws.proofs.Playing.{saying, settled_play}
 use Rattle.bend_laws.proofs.Changing.{said_at}
 use Rattle.bend_laws.proofs.Still.{no_message}
-use Rattle.bend_laws.proofs.Ticking.{music_all}
+use Rattle.midi_model.proofs.Same.{music_all}
 use Rattle.bend_laws.proofs.Untuning.{all_receive, IsMute, all_mute, released_mute, heard_else, none_selected}
 use Rattle.mpe_laws.specs.Follows.{Follows, IsGiven}
 use Rattle.mpe_laws.specs.Positions.{zoned_at}

@@ -23,8 +23,8 @@ use Rattle.bend_laws.specs.Bent.{IsTuned}
 use Rattle.bend_laws.proofs.Ticks.{AreTimely}
 use Rattle.bend_laws.proofs.Outputs.{source_played}
 use Rattle.bend_laws.proofs.Placing.{port_within, port_order, all_of_ports}
-use Rattle.bend_laws.proofs.Pitching.{PitchLaws}
-use Rattle.bend_laws.proofs.Drumless.{NoDrums, none_has}
+use Rattle.retune_model.proofs.Laws.{PitchLaws}
+use Rattle.bend_laws.proofs.Drumless.{NoDrums, none_has, and_true}
 use Rattle.mpe_laws.specs.Positions.{zoned_at, FollowsAt}
 use Rattle.mpe_laws.specs.Sources.{on_port, IsMpe, IsOnZones}
 use Rattle.mpe_laws.specs.FileLaws.{PortsFollow, PortsAreTheirEvents, PortsAreTheirBlocks, ZonedPlaysTheSame, ZonedFilePlaysTheSame, ZonedIsPlayable, ZonedIsOnZones, PortsBegin, PortsAreOnTheirChannels, MembersAreLeft, ZonedAddsFewBytes}
@@ -58,7 +58,7 @@ pub record Given : Type 0 where
 -- ---- a port of the file
 
 -- no part is lost where a port has no drums
-parts_stay : (keep has : Bool) (c : ℕ) → is_retuned keep c ≡ true → is_retuned (keep && has) c ≡ true
+pub parts_stay : (keep has : Bool) (c : ℕ) → is_retuned keep c ≡ true → is_retuned (keep && has) c ≡ true
 parts_stay true true c h = h
 parts_stay true false c h = refl
 parts_stay false has c h = refl
@@ -72,10 +72,6 @@ record OnPort (o : Options) (table : Targets) (es : List MidiEvent) (zones : ℕ
       ≡ zoned_output o table (zones z) (runs_on o table es channel z) unzoned (of_port z es)
   at : (k : ℕ) → zoned_at (on_port o es z) table (zones z) (runs_on o table es channel z) (of_port z es) k
       ≡ zoned_at o table (zones z) (runs_on o table es channel z) (of_port z es) k
-
-and_true : (a b : Bool) → b ≡ true → (a && b) ≡ a
-and_true true b h = h
-and_true false b h = refl
 
 port_asked : Given → (o : Options) (table : Targets) (es : List MidiEvent) (zones : ℕ → List Zone) (channel : ℕ → ℕ → Pair → ℕ) →
     IsMpe o table es zones channel → (z : ℕ) → Asked (on_port o es z) (zones z)

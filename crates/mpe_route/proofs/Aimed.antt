@@ -1,11 +1,10 @@
 -- What the program makes of a note, and of the messages that are about it, is what the definitions make of it.
-use Rattle.std.proofs.Common.{◌≡◌, ◌≤◌, ◌++◌, ◌&&◌, ℕ, zero, suc, pos, ◌+ℤ◌, Bool, true, false, not, cond, List, [], ◌∷◌, Option, Some, None, is_some, refl, sym, ap, ◌∙◌, subst}
+use Rattle.std.proofs.Common.{◌≡◌, ◌≤◌, ℕ, suc, pos, ◌+ℤ◌, Bool, true, false, not, cond, List, Option, Some, None, is_some, refl, sym, ap, ◌∙◌}
 use Rattle.mt_base.specs.declared.event.Msg.{Msg}
 use Rattle.mt_base.specs.declared.pair.Part.{Part as PartOf}
 use Rattle.mt_base.specs.declared.event.Msg.TheVariants.{NoteOn}
 use Rattle.mt_base.specs.Midi.{Says, MidiEvent}
 use Rattle.midi_model.specs.Notes.{Note, sounding_on}
-use Rattle.midi_model.specs.Music.{Music}
 use Rattle.retune_model.specs.Table.{Bounds, BendTarget, bend_target}
 use Rattle.retune_model.specs.Options.{Options, bends_notes}
 use Rattle.retune_model.specs.PlaysTheSame.{bend_target_if}
@@ -13,7 +12,6 @@ use Rattle.retune_model.specs.Faults.{Targets, is_part, target_of}
 use Rattle.retune_model.specs.Pairs.{Pair}
 use Rattle.channel_model.specs.Choice.{bend_value}
 use Rattle.channel_model.specs.BendOutput.{pair_with, pressed_note, off_at, note_released}
-use Rattle.key_pitch.specs.declared.aim.Aim.{Aim}
 use Rattle.key_pitch.specs.declared.aim.Aim.TheVariants as aims
 use Rattle.key_pitch.specs.Aims.{on_bend, bend_aim, tuning_aim}
 use Rattle.receiver.specs.Sounding.{sounding_at}
@@ -21,7 +19,7 @@ use Rattle.lifetimes.specs.Told.{music_on, told_of, begun_as, begun_by, aim_in, 
 use Rattle.channel_plan.specs.Told.{channel_in}
 use Rattle.channel_plan.specs.declared.plan.Plan.{Plan}
 use Rattle.mpe_route.specs.declared.caused.Played.{Played}
-use Rattle.mpe_route.specs.Caused.{played_on, played_as, played_if, down_of, released_at, released_as}
+use Rattle.mpe_route.specs.Caused.{played_on, played_if, down_of, released_at, released_as}
 use Rattle.mpe_route.proofs.Released.{pressed_by, pressed_is}
 
 -- a note with a target, on a channel

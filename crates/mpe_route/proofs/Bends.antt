@@ -1,5 +1,5 @@
 -- The bend that each member has at a position, from one position to the next.
-use Rattle.std.proofs.Common.{◌≡◌, ◌≢◌, ◌≤◌, ◌<◌, ◌&&◌, ◌||◌, ℕ, zero, suc, pos, ◌+ℤ◌, Bool, true, false, cond, nat_eq, List, [], ◌∷◌, map, Option, Some, None, refl, sym, ap, ◌∙◌, subst, filter, length, take, inl, inr, arith}
+use Rattle.std.proofs.Common.{◌≡◌, ◌≢◌, ◌≤◌, ◌<◌, ℕ, suc, pos, ◌+ℤ◌, Bool, true, false, cond, nat_eq, List, [], ◌∷◌, map, Option, Some, None, refl, sym, ap, ◌∙◌, subst, filter, length, take, inl, inr, arith}
 use Rattle.std.specs.Set.{is_member}
 use Rattle.std.proofs.lemmas.Bool.{cases_Bool, both_ways, or_cases, or_left, or_right, eqb-true}
 use Rattle.mt_base.specs.declared.event.Msg.TheVariants.{NoteOn}
@@ -34,39 +34,9 @@ use Rattle.mpe_route.specs.Laws.{IsZonable}
 use Rattle.mpe_route.proofs.Kit.{Kit}
 use Rattle.mpe_route.proofs.Source.{asked_port}
 use Rattle.mpe_route.proofs.Channels.{mpe, ported, begun_there}
+use Rattle.mpe_laws.proofs.Lasting.{on_found, from_filter, member_last}
 
 -- ---- what is on a place
-
--- the pair that is on a place is there, and its place is that one
-on_found : (f : Pair → ℕ) (i : ℕ) (ps : List Pair) (p : Pair) → on_place f i ps ≡ Some p → Has ps p × (f p ≡ i)
-on_found f i [] p h = absurd cc
-on_found f i (q ∷ qs) p h = pick (nat_eq (f q) i) refl h (on_found f i qs p)
-  where
-    pick : (b : Bool) → nat_eq (f q) i ≡ b → cond b (Some q) (on_place f i qs) ≡ Some p → (on_place f i qs ≡ Some p → Has qs p × (f p ≡ i))
-        → Has (q ∷ qs) p × (f p ≡ i)
-    pick true e g later =
-        let same : q ≡ p = cc in (
-          or_left (is_same_pair p q) (is_member is_same_pair qs p) (ap (is_same_pair p) same ∙ pair_itself p),
-          ap f (sym same) ∙ eqb-true (f q) i e,
-        )
-    pick false e g later = let r = later g in (or_right (is_same_pair p q) (is_member is_same_pair qs p) r.0, r.1)
-
--- a pair that passes a test is among all, and the test holds
-from_filter : (f : Pair → Bool) (ps : List Pair) (p : Pair) → Has (filter f ps) p → Has ps p × (f p ≡ true)
-from_filter f [] p h = absurd (both_ways false refl h)
-from_filter f (q ∷ qs) p h = pick (f q) refl h (from_filter f qs p)
-  where
-    pick : (b : Bool) → f q ≡ b → Has (cond b (q ∷ filter f qs) (filter f qs)) p → (Has (filter f qs) p → Has qs p × (f p ≡ true))
-        → Has (q ∷ qs) p × (f p ≡ true)
-    pick true e g later = elim (or_cases (is_same_pair p q) (is_member is_same_pair (filter f qs) p) g) [
-      | inl same ↦ (or_left (is_same_pair p q) (is_member is_same_pair qs p) same, ap f (same_pair p q same) ∙ e)
-      | inr k ↦ (let r = later k in (or_right (is_same_pair p q) (is_member is_same_pair qs p) r.0, r.1))
-    ]
-    pick false e g later = let r = later g in (or_right (is_same_pair p q) (is_member is_same_pair qs p) r.0, r.1)
-
-member_last : (k : ℕ) (b : Bool) (before : Option (ℕ × Pair)) → member_bend (last_or k None b before) ≡ cond b 8192 (member_bend before)
-member_last k true before = refl
-member_last k false before = refl
 
 none_there : (p : Pair) (ps : List Pair) → ps ≡ [] → Has ps p → ⊥
 none_there p ps none h = both_ways (is_member is_same_pair ps p) (ap (λ l. is_member is_same_pair l p) none) h

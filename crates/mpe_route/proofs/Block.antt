@@ -1,13 +1,12 @@
 -- What the program puts for an event is the event's block.
-use Rattle.std.proofs.Common.{◌≡◌, ◌≤◌, ◌<◌, ◌++◌, ◌&&◌, ◌⊎◌, ℕ, zero, suc, pos, ◌+ℤ◌, Bool, true, false, not, cond, nat_eq, List, [], ◌∷◌, map, Option, Some, None, refl, sym, ap, ◌∙◌, subst, length, take, inl, inr, arith}
+use Rattle.std.proofs.Common.{◌≡◌, ◌≤◌, ◌<◌, ◌++◌, ◌&&◌, ◌⊎◌, ℕ, zero, suc, pos, ◌+ℤ◌, Bool, true, false, not, cond, nat_eq, List, [], ◌∷◌, map, Option, Some, None, refl, sym, ap, ◌∙◌, length, take, inl, inr, arith}
 use Rattle.std.specs.Set.{is_member}
 use Rattle.std.proofs.lemmas.Bool.{cases_Bool, eq-eqb}
 use Rattle.std.proofs.lemmas.List.{map-append}
 use Rattle.mt_base.specs.declared.event.Msg.{Msg}
 use Rattle.mt_base.specs.declared.event.Msg.TheVariants.{NoteOn, NoteOff, KeyPressure, Control, Program, Pressure, Bend}
-use Rattle.mt_base.specs.declared.pair.Part.{Part as PartOf}
 use Rattle.mt_base.specs.Midi.{MidiWhat, Says, SysexOf, MetaOf, MidiEvent, channel_of}
-use Rattle.midi_model.specs.Sysex.{Doing, Plays, Resets, Nothing, Retune, tunes, doing, is_reset, tuning_of}
+use Rattle.midi_model.specs.Sysex.{Resets, Nothing, Retune, tunes, doing, is_reset, tuning_of}
 use Rattle.midi_model.specs.Bring.{where_differs}
 use Rattle.midi_model.specs.Music.{Music, channel_at, play}
 use Rattle.retune_model.specs.Table.{BendTarget}
@@ -16,16 +15,15 @@ use Rattle.retune_model.specs.Ports.{Numbered, events_on, port_at}
 use Rattle.retune_model.specs.Rests.{begun_at}
 use Rattle.bend_laws.specs.Follows.{Has}
 use Rattle.retune_model.specs.PlaysTheSame.{bend_target_if}
-use Rattle.retune_model.specs.Faults.{Targets, is_part, target_of}
+use Rattle.retune_model.specs.Faults.{Targets, is_part}
 use Rattle.retune_model.specs.Pairs.{Pair, is_same_pair}
 use Rattle.retune_model.specs.PortNeed.{pairs_on}
 use Rattle.channel_model.specs.Choice.{bend_value}
 use Rattle.channel_model.specs.BendOutput.{pair_with, runs_on, placed_at, pressed_note, note_released}
-use Rattle.channel_model.specs.MpeOutput.{Zone, Zoned, master_of, member_at, zone_of, zones_setup, member_begins, on_channel, zone_causes, in_zone, mpe_causes, setup_before, setup_behind, zoned_block}
+use Rattle.channel_model.specs.MpeOutput.{Zone, Zoned, master_of, member_at, zone_of, zones_setup, member_begins, zone_causes, in_zone, mpe_causes, setup_before, setup_behind, zoned_block}
 use Rattle.channel_model.specs.Rows.{zones_on}
 use Rattle.plan_laws.specs.Counting.{ComesAt}
-use Rattle.receiver.specs.Sounding.{sounding_at}
-use Rattle.lifetimes.specs.Told.{music_on, port_on, count_begun, begun_by, number_of, aim_in}
+use Rattle.lifetimes.specs.Told.{music_on, port_on, count_begun, begun_by}
 use Rattle.routes.specs.Putting.{said_at}
 use Rattle.routes.specs.Device.{is_first, resets_all}
 use Rattle.channel_plan.specs.Told.{channel_in}
@@ -36,7 +34,7 @@ use Rattle.mpe_route.specs.Putting.{said_if, passed, block_events}
 use Rattle.mpe_route.specs.Planned.{planned_channel}
 use Rattle.mpe_route.specs.Laws.{IsZonable}
 use Rattle.mpe_route.proofs.Kit.{Kit, music_is}
-use Rattle.mpe_route.proofs.Channels.{mpe, pair_there, channel_begun, channels_at}
+use Rattle.mpe_route.proofs.Channels.{mpe, channel_begun, channels_at}
 use Rattle.mpe_route.proofs.Aimed.{aimed, note_begun, released_is}
 use Rattle.mpe_route.proofs.Bends.{state, out_bend, bent_there, bend_ready, on_member, OnMember, begun_has, kept_there}
 

@@ -1,5 +1,5 @@
 -- The channel that the plan gives a note that sounds is that of its pair's run.
-use Rattle.std.proofs.Common.{◌≡◌, ◌≤◌, ◌<◌, ◌+◌, ◌++◌, ◌&&◌, ℕ, zero, suc, ℤ, Bool, true, false, cond, List, [], ◌∷◌, Option, Some, None, refl, sym, ap, ◌∙◌, subst, length, take, nat_eq, inl, inr, arith}
+use Rattle.std.proofs.Common.{◌≡◌, ◌≤◌, ◌+◌, ◌++◌, ◌&&◌, ℕ, zero, suc, Bool, true, false, cond, List, [], ◌∷◌, Some, refl, sym, ap, ◌∙◌, subst, length, take, nat_eq, inl, inr, arith}
 use Rattle.std.specs.List.{AllByRecursion}
 use Rattle.std.proofs.lemmas.Bool.{cases_Bool, cases_eq, eq-eqb, ne_eqb, eqb-true, and_parts}
 use Rattle.mt_base.specs.declared.event.Msg.TheVariants.{NoteOn, NoteOff, KeyPressure, Control, Program, Pressure, Bend}
@@ -9,17 +9,16 @@ use Rattle.midi_model.specs.Notes.{Note, sounds}
 use Rattle.midi_model.specs.Music.{Music}
 use Rattle.retune_model.specs.Table.{BendTarget}
 use Rattle.retune_model.specs.Options.{Options, bends_notes}
-use Rattle.retune_model.specs.Ports.{of_port, port_at, events_on, music_at}
+use Rattle.retune_model.specs.Ports.{of_port, port_at, events_on}
 use Rattle.retune_model.specs.PlaysTheSame.{begins_note, bend_target_if}
 use Rattle.retune_model.specs.Faults.{Targets, is_part, target_of}
-use Rattle.retune_model.specs.Pairs.{Pair, pair_if}
+use Rattle.retune_model.specs.Pairs.{pair_if}
 use Rattle.retune_model.specs.Rests.{begun_at, begun_pair}
 use Rattle.retune_model.specs.PortNeed.{pairs_on}
 use Rattle.channel_model.specs.MpeOutput.{Zone, zone_of}
 use Rattle.channel_model.specs.BendOutput.{pair_with, runs_on}
 use Rattle.channel_model.specs.Rows.{zones_on}
 use Rattle.bend_laws.specs.Follows.{Has, IsAmong, SoundAmong}
-use Rattle.bend_laws.proofs.Planning.{source_at}
 use Rattle.bend_laws.proofs.Outputs.{source_played}
 use Rattle.mpe_laws.specs.Sources.{IsMpe}
 use Rattle.mpe_laws.proofs.Planning.{IsPlanned}
@@ -31,7 +30,7 @@ use Rattle.lifetimes.proofs.EventNext.{notes_of, sounds_as_before, struck_now}
 use Rattle.lifetimes.proofs.Numbers.{number_next, count_next}
 use Rattle.lifetimes.proofs.StruckSteps.{is_on}
 use Rattle.lifetimes.proofs.Telling.{now_on}
-use Rattle.channel_plan.specs.Planned.{unbent, note_ons, notes_to, Begins, zone_channel, GivesInZone}
+use Rattle.channel_plan.specs.Planned.{unbent, note_ons, notes_to, Begins, GivesInZone}
 use Rattle.channel_plan.specs.Told.{channel_in}
 use Rattle.channel_plan.specs.declared.plan.Plan.{Plan}
 use Rattle.mpe_route.specs.Planned.{planned_channel}

@@ -1,9 +1,8 @@
 -- What is cited of the crates below; and a source, position by position.
-use Rattle.std.proofs.Common.{◌≡◌, ◌≤◌, ◌<◌, ◌++◌, ℕ, suc, List, [], ◌∷◌, refl, sym, ap, ◌∙◌, subst, length, take, drop, get_or, arith}
+use Rattle.std.proofs.Common.{◌≡◌, ◌≤◌, ◌<◌, ℕ, List, [], sym, ap, ◌∙◌, length, take, get_or, arith}
 use Rattle.std.proofs.Math.Seq.{drop-cons}
 use Rattle.std.proofs.lemmas.List.{length-take-le}
 use Rattle.mt_base.specs.Midi.{MidiEvent, MetaOf}
-use Rattle.midi_model.specs.Music.{Music}
 use Rattle.midi_model.specs.MusicLaws.{NotesAge}
 use Rattle.midi_model.specs.ReceiverLaws.{OneNoteSoundsOnAKey}
 use Rattle.retune_model.specs.Ports.{of_port, music_at}

@@ -10,3 +10,4 @@ mod Bends
 mod Block
 mod Steps
 mod Passing
+mod Turns

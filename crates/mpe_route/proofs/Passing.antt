@@ -1,6 +1,6 @@
 -- A source that is passed on by its plan, event by event.
-use Rattle.std.proofs.Common.{◌≡◌, ◌≤◌, ◌<◌, ◌++◌, ℕ, zero, suc, Bool, true, false, cond, nat_eq, List, [], ◌∷◌, Option, Some, None, refl, sym, ap, ◌∙◌, subst, length, take, drop, inl, inr, arith}
-use Rattle.std.proofs.lemmas.Bool.{cases_Bool, cases_eq, eq-eqb, ne_eqb}
+use Rattle.std.proofs.Common.{◌≡◌, ◌<◌, ◌++◌, ℕ, suc, false, cond, List, [], ◌∷◌, Option, refl, sym, ap, ◌∙◌, subst, length, take, inl, inr}
+use Rattle.std.proofs.lemmas.Bool.{cases_eq, eq-eqb, ne_eqb}
 use Rattle.mt_base.specs.Midi.{MidiEvent}
 use Rattle.midi_model.specs.Sysex.{doing}
 use Rattle.midi_model.specs.Writing.{Written}
@@ -20,7 +20,7 @@ use Rattle.routes.proofs.Puts.{not_begun}
 use Rattle.channel_plan.specs.declared.plan.Plan.{Plan}
 use Rattle.mpe_route.specs.declared.kept.Kept.{Kept}
 use Rattle.mpe_route.specs.declared.caused.Played.{Played}
-use Rattle.mpe_route.specs.Caused.{played_if, released_by, either, caused_by}
+use Rattle.mpe_route.specs.Caused.{played_if, caused_by}
 use Rattle.mpe_route.specs.Kept.{begun_in, bend_in, bends_after}
 use Rattle.mpe_route.specs.Putting.{block_events}
 use Rattle.mpe_route.specs.Planned.{planned_channel, zoned}
@@ -29,15 +29,10 @@ use Rattle.mpe_route.specs.Zones.{zones_in}
 use Rattle.mpe_route.proofs.Kit.{Kit}
 use Rattle.mpe_route.proofs.PlannedZones.{zones_are}
 use Rattle.mpe_route.proofs.Bends.{state}
-use Rattle.mpe_route.proofs.Block.{HasBends, note_of, block_is}
+use Rattle.mpe_route.proofs.Block.{note_of, block_is}
 use Rattle.mpe_route.proofs.Steps.{AllBends, bends_first, bends_next, state_here, state_other}
-
-ports_append : (ports : ℕ → ℕ) (es : List MidiEvent) (e : MidiEvent) → ports_from ports (es ++ e ∷ []) ≡ ports_after (ports_from ports es) e
-ports_append ports [] e = refl
-ports_append ports (x ∷ es) e = ports_append (ports_after ports x) es e
-
-ext : {A B : Type 0} (f g : A → B) → ((x : A) → f x ≡ g x) → f ≡ g
-ext f g h = λ i. λ x. h x i
+use Rattle.lifetimes.proofs.Ported.{ports_append}
+use Rattle.routes.proofs.States.{ext}
 
 -- ---- what is still to come
 

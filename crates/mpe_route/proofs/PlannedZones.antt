@@ -1,5 +1,5 @@
 -- The zones that the program has of a port are those of the definitions, and few members.
-use Rattle.std.proofs.Common.{◌≡◌, ◌≤◌, ◌+◌, ◌-◌, ℕ, zero, suc, Bool, true, false, cond, List, [], ◌∷◌, Option, Some, None, refl, sym, ap, ◌∙◌, subst, length, nat_eq, nat_lt, arith}
+use Rattle.std.proofs.Common.{◌≡◌, ◌≤◌, ◌-◌, ℕ, suc, Bool, true, false, cond, List, [], ◌∷◌, Some, refl, sym, ap, ◌∙◌, length, nat_eq, nat_lt, arith}
 use Rattle.std.specs.Prelude.{option_map}
 use Rattle.std.proofs.lemmas.Bool.{eqb-true}
 use Rattle.mt_base.specs.Midi.{MidiEvent}
@@ -15,7 +15,7 @@ use Rattle.mpe_laws.specs.Sources.{AreAllowed}
 use Rattle.channel_plan.specs.Planned.{IsPlan, zone_told, zones_told}
 use Rattle.channel_plan.specs.Told.{zone_in}
 use Rattle.channel_plan.specs.declared.plan.Plan.{Plan}
-use Rattle.mpe_route.specs.Zones.{zone_from, zones_from, zones_in, AreSmall}
+use Rattle.mpe_route.specs.Zones.{zones_from, zones_in, AreSmall}
 
 -- at most two
 two_at_most : (ns : List (ℕ × ℕ)) → length (zones_for ns) ≤ 2

@@ -1,6 +1,5 @@
 -- The ranges of a zone's members, one after the other.
-use Rattle.std.proofs.Common.{◌≡◌, ◌<◌, ◌≤◌, ◌+◌, ◌-◌, ◌*◌, ◌++◌, ℕ, zero, suc, Bool, true, false, cond, nat_eq, List, [], length, refl, ap, ◌∙◌, subst, arith, length-append}
-use Rattle.mt_base.specs.declared.event.Msg.{Msg}
+use Rattle.std.proofs.Common.{◌≡◌, ◌<◌, ◌≤◌, ◌+◌, ◌-◌, ◌*◌, ◌++◌, ℕ, zero, suc, Bool, true, false, cond, nat_eq, [], length, refl, ap, ◌∙◌, arith, length-append}
 use Rattle.midi_model.specs.Bring.{registered}
 use Rattle.channel_model.specs.MpeOutput.{Zone, member_at, members_from, range_each, zone_setup, master_of}
 

@@ -1,8 +1,8 @@
 -- The note that an event releases: the one whose key is down.
-use Rattle.std.proofs.Common.{◌≡◌, ◌≤◌, ◌+◌, ◌&&◌, ℕ, zero, suc, Bool, true, false, not, cond, if◌then◌else◌, List, [], ◌∷◌, Option, Some, None, is_some, refl, sym, ap, ◌∙◌, subst, arith}
-use Rattle.midi_model.specs.Notes.{Note, sounds, is_down, is_at, sounding_on}
+use Rattle.std.proofs.Common.{◌≡◌, ◌≤◌, ◌+◌, ◌&&◌, ℕ, suc, Bool, true, false, not, cond, if◌then◌else◌, List, [], ◌∷◌, Option, Some, None, is_some, refl, sym, ap, ◌∙◌, arith}
+use Rattle.midi_model.specs.Notes.{Note, sounds, is_at, sounding_on}
 use Rattle.channel_model.specs.BendOutput.{pressed_note}
-use Rattle.receiver.specs.Sounding.{sounding_from, sounding_at}
+use Rattle.receiver.specs.Sounding.{sounding_from}
 
 -- the note that sounds on a key, where the key is down
 abbrev pub pressed_by : Option (ℕ × Note) → Option Note

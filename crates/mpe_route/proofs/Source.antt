@@ -1,9 +1,8 @@
 -- A source with a plan of the program is one with zones and plans for each of its ports.
-use Rattle.std.proofs.Common.{◌≡◌, ◌≤◌, ◌&&◌, ℕ, Bool, true, false, List, [], Option, Some, None, refl, sym, ap, ◌∙◌, subst, length}
-use Rattle.std.specs.List.{AllByRecursion}
+use Rattle.std.proofs.Common.{◌≡◌, ◌&&◌, ℕ, Bool, true, false, List, Some, refl, ap, subst, length}
 use Rattle.mt_base.specs.Midi.{MidiEvent}
-use Rattle.retune_model.specs.Options.{Options, Route, ByMpe, bends_notes, has_drums, keeps_drums, is_retuned}
-use Rattle.retune_model.specs.Faults.{Targets, is_part}
+use Rattle.retune_model.specs.Options.{Options, Route, bends_notes, has_drums, keeps_drums, is_retuned}
+use Rattle.retune_model.specs.Faults.{Targets}
 use Rattle.retune_model.specs.Ports.{of_port, events_on}
 use Rattle.retune_model.specs.Pairs.{Pair}
 use Rattle.retune_model.specs.Places.{nth}
@@ -12,17 +11,17 @@ use Rattle.channel_model.specs.MpeOutput.{Zone, zone_of}
 use Rattle.channel_model.specs.BendOutput.{runs_on}
 use Rattle.channel_model.specs.Refusals.{FitsOn}
 use Rattle.channel_model.specs.Rows.{zones_on, zone_row}
-use Rattle.mpe_laws.specs.Sources.{on_port, in_its_zone, zoned_channel, HasZonePlan, IsMpe, IsPlannedMpe}
+use Rattle.mpe_laws.specs.Sources.{on_port, in_its_zone, IsMpe, IsPlannedMpe}
 use Rattle.mpe_laws.specs.FileLaws.{PlansServe}
 use Rattle.mpe_laws.proofs.Standing.{Laws}
 use Rattle.mpe_laws.proofs.Planning.{IsPlanned}
 use Rattle.mpe_laws.proofs.Allowed.{Asked, allowed_zones, allowed_as}
 use Rattle.mpe_laws.proofs.Ported.{PortFacts, planned_port}
-use Rattle.channel_plan.specs.Planned.{IsPlan, GivesChannels, GivesInZone, zone_position, row_of, zone_channel}
+use Rattle.channel_plan.specs.Planned.{GivesChannels, GivesInZone, zone_position, row_of, zone_channel}
 use Rattle.channel_plan.specs.declared.plan.Plan.{Plan}
 use Rattle.mpe_route.specs.Planned.{planned_channel}
 use Rattle.mpe_route.specs.Laws.{IsZonable}
-use Rattle.mpe_route.proofs.PlannedZones.{IsAt, zone_at}
+use Rattle.mpe_laws.proofs.Whole.{parts_stay}
 
 pub sound_of : (o : Options) (table : Targets) (es : List MidiEvent) (plan : Plan) → IsZonable o table es plan → IsSound o table es
 sound_of o table es plan h =
@@ -58,12 +57,6 @@ pub in_zone_is : (o : Options) (table : Targets) (es : List MidiEvent) (plan : P
 in_zone_is o table es plan z k p w of = ap (in_its_zone (zone_channel o table es plan z) k p) of
 
 -- ---- a port
-
--- no part is lost where a port has no drums
-parts_stay : (keep has : Bool) (c : ℕ) → is_retuned keep c ≡ true → is_retuned (keep && has) c ≡ true
-parts_stay true true c h = h
-parts_stay true false c h = refl
-parts_stay false has c h = refl
 
 pub asked_port : Laws → (o : Options) (table : Targets) (es : List MidiEvent) (zones : ℕ → List Zone) (channel : ℕ → ℕ → Pair → ℕ)
     → IsMpe o table es zones channel → (z : ℕ) → Asked (on_port o es z) (zones z)

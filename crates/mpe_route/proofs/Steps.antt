@@ -1,7 +1,7 @@
 -- What is kept of each port, from one position to the next.
-use Rattle.std.proofs.Common.{◌≡◌, ◌≢◌, ◌≤◌, ◌<◌, ◌++◌, ◌&&◌, ◌⊎◌, ℕ, zero, suc, pos, ◌+ℤ◌, Bool, true, false, cond, nat_eq, List, [], ◌∷◌, Option, Some, None, refl, sym, ap, ◌∙◌, subst, length, take, drop, inl, inr, arith}
+use Rattle.std.proofs.Common.{◌≡◌, ◌≢◌, ◌<◌, ◌++◌, ◌&&◌, ◌⊎◌, ℕ, zero, suc, Bool, true, false, cond, nat_eq, List, [], ◌∷◌, Option, Some, None, refl, sym, ap, ◌∙◌, subst, length, take, drop, inl, inr, arith}
 use Rattle.std.specs.Set.{is_member}
-use Rattle.std.proofs.lemmas.Bool.{cases_Bool, cases_eq, both_ways, or_cases, eq-eqb, ne_eqb}
+use Rattle.std.proofs.lemmas.Bool.{cases_eq, both_ways, or_cases, eq-eqb, ne_eqb}
 use Rattle.std.proofs.lemmas.List.{take-append-drop, length-take-le}
 use Rattle.mt_base.specs.declared.event.Msg.TheVariants.{NoteOn, NoteOff, KeyPressure, Control, Program, Pressure, Bend}
 use Rattle.mt_base.specs.Midi.{MidiWhat, Says, SysexOf, MetaOf, MidiEvent}
@@ -15,7 +15,7 @@ use Rattle.retune_model.specs.Pairs.{Pair, pair_if, is_same_pair}
 use Rattle.retune_model.specs.Rests.{begun_at, begun_pair}
 use Rattle.retune_model.specs.PortNeed.{pairs_on}
 use Rattle.channel_model.specs.BendOutput.{pair_with, runs_on}
-use Rattle.channel_model.specs.MpeOutput.{Zone, Zoned, member_at, zone_of, next_zoned}
+use Rattle.channel_model.specs.MpeOutput.{Zone, member_at, zone_of, next_zoned}
 use Rattle.channel_model.specs.Rows.{zones_on}
 use Rattle.bend_laws.specs.Follows.{Has}
 use Rattle.bend_laws.specs.Positions.{port_event}
@@ -39,6 +39,7 @@ use Rattle.mpe_route.proofs.Channels.{mpe, begun_there, channel_begun}
 use Rattle.mpe_route.proofs.Aimed.{played_to, aimed, note_begun, note_not_begun}
 use Rattle.mpe_route.proofs.Bends.{state, out_bend, asked, bend_begun, bend_kept, begun_has}
 use Rattle.mpe_route.proofs.Block.{HasBends}
+use Rattle.mpe_laws.proofs.Ops.{and_false}
 
 -- ---- resets
 
@@ -52,10 +53,6 @@ resets_is (SysexOf lead bytes) = pick (nat_eq lead 240) (is_reset bytes) (tuning
     pick true true r = refl
     pick true false None = refl
     pick true false (Some y) = refl
-
-and_false : (b : Bool) → (b && false) ≡ false
-and_false true = refl
-and_false false = refl
 
 -- ---- the bends that are kept
 

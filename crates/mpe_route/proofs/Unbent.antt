@@ -1,5 +1,5 @@
 -- The bends that are kept, at first and after a reset.
-use Rattle.std.proofs.Common.{◌≡◌, ◌≤◌, ◌<◌, ◌+◌, ◌*◌, ◌&&◌, ℕ, zero, suc, Bool, true, false, cond, nat_eq, nat_lt, if◌then◌else◌, List, Option, Some, None, get_or, replicate, refl, sym, ap, ◌∙◌, subst, inl, inr, arith}
+use Rattle.std.proofs.Common.{◌≡◌, ◌≤◌, ◌<◌, ◌+◌, ◌*◌, ◌&&◌, ℕ, zero, suc, Bool, true, false, cond, nat_eq, nat_lt, if◌then◌else◌, List, Option, Some, None, get_or, replicate, refl, sym, ap, ◌∙◌, inl, inr, arith}
 use Rattle.std.proofs.lemmas.Bool.{cases_Bool, cases_eq, eq-eqb, ne_eqb, lt-ltb, le-ltb, ltb-true, ltb-false}
 use Rattle.std.proofs.lemmas.List.{get_or-replicate}
 use Rattle.mt_base.specs.Midi.{MidiWhat, Says, SysexOf, MetaOf}
@@ -8,9 +8,8 @@ use Rattle.retune_model.specs.SourceFaults.{is_message}
 use Rattle.retune_model.specs.PortOutput.{kept_for}
 use Rattle.retune_model.specs.Routes.{dump_next}
 use Rattle.mpe_route.specs.Kept.{with_bend, without_bends}
-
-ext : {A B : Type 0} (f g : A → B) → ((x : A) → f x ≡ g x) → f ≡ g
-ext f g h = λ i. λ x. h x i
+use Rattle.routes.proofs.States.{ext}
+use Rattle.mpe_laws.proofs.Ops.{and_false}
 
 never_begun : (n i : ℕ) → get_or (replicate n false) i false ≡ false
 never_begun zero i = refl
@@ -51,10 +50,6 @@ unbent port n bends z d = if nat_eq z port && nat_lt d n then 8192 else bends z 
 
 lt_zero : (d : ℕ) → nat_lt d 0 ≡ false
 lt_zero d = le-ltb d 0 (omega arith)
-
-and_false : (b : Bool) → (b && false) ≡ false
-and_false true = refl
-and_false false = refl
 
 pub unbent_first : (port : ℕ) (bends : ℕ → ℕ → ℕ) (z d : ℕ) → bends z d ≡ unbent port 0 bends z d
 unbent_first port bends z d =

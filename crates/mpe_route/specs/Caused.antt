@@ -1,5 +1,5 @@
 -- What a message of a part causes on the MPE route, as the program has it.
-use Rattle.std.specs.Prelude.{ℕ, suc, zero, pos, ◌+ℤ◌, List, [], ◌∷◌, ◌++◌, Bool, true, false, if◌then◌else◌, Option, Some, None}
+use Rattle.std.specs.Prelude.{ℕ, suc, zero, pos, ◌+ℤ◌, List, [], ◌∷◌, ◌++◌, Bool, true, if◌then◌else◌, Option, Some, None}
 use Rattle.mt_base.specs.declared.event.Msg.{Msg}
 use Rattle.mt_base.specs.declared.event.Msg.TheVariants.{NoteOn, NoteOff, Bend}
 use Rattle.mt_base.specs.Midi.{MidiWhat, Says, MidiEvent, channel_of}

@@ -32,6 +32,8 @@ use Rattle.octave_route.specs.Messages.{bit_of, as_number, octave_bytes}
 use Rattle.octave_route.specs.Output.{is_tuned, parts_number, octave_setup, octaved}
 use Rattle.octave_route.specs.Putting.{setup_if, block_events, begun_in}
 use Rattle.octave_route.proofs.Numbers.{bits_of}
+use Rattle.lifetimes.proofs.Ported.{ports_append}
+use Rattle.routes.proofs.States.{ext}
 
 -- ---- the number of the parts is the mask
 
@@ -128,9 +130,6 @@ block_same mask o values es b e h =
 
 -- ---- what is kept in mind
 
-ext : {A B : Type 0} (f g : A → B) → ((x : A) → f x ≡ g x) → f ≡ g
-ext f g h = λ i. λ x. h x i
-
 pub none_begun : begun_in (replicate 256 false) ≡ (λ z. false)
 none_begun = ext (begun_in (replicate 256 false)) (λ z. false) (λ z. same 256 z)
   where
@@ -186,10 +185,6 @@ begins P o values all rest old stands is = record {
       es) (sym is))
       (not_begun old (octaved o values all));
 }
-
-ports_append : (ports : ℕ → ℕ) (es : List MidiEvent) (e : MidiEvent) → ports_from ports (es ++ e ∷ []) ≡ ports_after (ports_from ports es) e
-ports_append ports [] e = refl
-ports_append ports (x ∷ es) e = ports_append (ports_after ports x) es e
 
 abbrev pub next_begun : ℕ → (ℕ → Bool) → MidiEvent → ℕ → Bool
 next_begun z s e = kept_for z (dump_next (s z) (doing e.what)) s

@@ -22,7 +22,7 @@ use Rattle.retune_model.specs.Octave.{octave_device, octave_played}
 use Rattle.retune_model.specs.Source.{source_pitch}
 use Rattle.midi_model.specs.Params.{value_of}
 use Rattle.retune_model.proofs.Begun.{AllNotes}
-use Rattle.retune_model.proofs.DumpSame.{pairwise_same, pairwise_append, of_notes, every_note, LastHas, last_begun}
+use Rattle.retune_model.proofs.DumpSame.{pairwise_same, pairwise_append, of_notes, every_note, LastHas, last_begun, event}
 use Rattle.retune_model.proofs.Faultless.{AreFineFrom, no_zones_step}
 use Rattle.retune_model.proofs.Fronts.{all_weaker, blocks}
 use Rattle.retune_model.proofs.Served.{IsKnown}
@@ -243,9 +243,6 @@ last_alike scaling o table used values source m xs out track (n ∷ []) g first 
 )
 last_alike scaling o table used values source m xs out track (n ∷ x ∷ ns) g first z stays keyed last = last_alike scaling o table used values source
     m xs out track (x ∷ ns) g first z stays keyed.1 last
-
-abbrev event : ℕ → ℕ → MidiWhat → MidiEvent
-event t track what = record { tick = t; track = track; what = what }
 
 -- one event, which the source and the output have taken; m is the music before it
 one_alike : (scaling : Scaling) (o : Options) (table : Targets) (used : ℕ) (values : List ℕ) (source : List MidiEvent) (b : Bool) (m : Music) (xs out

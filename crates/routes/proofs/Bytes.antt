@@ -12,6 +12,7 @@ use Rattle.retune_model.specs.Faults.{Targets}
 use Rattle.retune_model.specs.Dump.{tuning_if, tuning_at, told_value, values_from}
 use Rattle.routes.specs.Laws.{BytesAreDumps, BytesAreChanges}
 use Rattle.routes.specs.Routed.{dump_of, change_of}
+use Rattle.mts_msg.proofs.Lengths.{values_length}
 
 pub values_count : (f : ℕ → Option ℕ) (k n : ℕ) → length (values_from f k n) ≡ n
 values_count f k zero = refl
@@ -51,14 +52,6 @@ pub told_fits : (table : Targets) (k : ℕ) → told_value table k ≤ 2097150
 told_fits table k = value_below (tuning_at table k) (fits_if (table k 0))
 
 -- ---- their lengths
-
-value_length : (v : Option ℕ) → length (value_bytes v) ≡ 3
-value_length None = refl
-value_length (Some v) = refl
-
-values_length : (vs : List (Option ℕ)) → length (flat_map value_bytes vs) ≡ 3 * length vs
-values_length [] = refl
-values_length (v ∷ vs) = omega (arith, value_length v, values_length vs, length-append (value_bytes v) (flat_map value_bytes vs))
 
 pub dump_length : (o : Options) (table : Targets) → length (dump_of o table) ≡ 407
 dump_length o table =

@@ -7,7 +7,7 @@ use Rattle.midi_model.specs.Writing.{Written, written}
 use Rattle.event_stream.specs.Distributed.{distributed, MayPut}
 use Rattle.routes.specs.Laws.{PlayableMayBePut, PutIsDealt}
 use Rattle.routes.specs.Putting.{put_one, put_all, AllMayPut}
-use Rattle.routes.proofs.Dealt.{length_dealt}
+use Rattle.event_stream.proofs.Dealing.{length_dealt}
 use Rattle.routes.proofs.Premises.{PutLaws}
 
 -- one event behind those before it

@@ -5,8 +5,9 @@ pub mod Premises
 mod Bytes
 pub mod Sizes
 mod Same
+pub mod Around
 mod Blocks
 mod Lives
-mod States
+pub mod States
 pub mod Channels
 mod Passing

@@ -30,6 +30,7 @@ use Rattle.routes.proofs.Bytes.{told_fits}
 use Rattle.routes.proofs.Channels.{channels_are, some_marked, valid_on}
 use Rattle.routes.proofs.Lives.{routed_is_passed}
 use Rattle.routes.proofs.Puts.{not_begun}
+use Rattle.lifetimes.proofs.Ported.{ports_append}
 
 -- Of all events a front was taken, for which P holds; what it causes was put, and what the rest causes is still to come.
 pub record Passing (P : List MidiEvent → Type 0) (o : Options) (table : Targets) (all rest : List MidiEvent) (kept : Kept)
@@ -54,10 +55,6 @@ begins P o table all rest kept old stands is nothing = record {
 }
 
 -- ---- one event
-
-ports_append : (ports : ℕ → ℕ) (es : List MidiEvent) (e : MidiEvent) → ports_from ports (es ++ e ∷ []) ≡ ports_after (ports_from ports es) e
-ports_append ports [] e = refl
-ports_append ports (x ∷ es) e = ports_append (ports_after ports x) es e
 
 -- what is kept in mind of the event's port, behind it
 abbrev pub next_states : Options → Targets → List MidiEvent → ℕ → (ℕ → Told) → MidiEvent → ℕ → Told

@@ -26,7 +26,8 @@ use Rattle.retune_model.specs.Routes.{Setup, Live, Told, nothing_told, sends, se
 use Rattle.routes.specs.Laws.{AddsFewBytes, TracksAreShort}
 use Rattle.routes.specs.Routed.{dump_of, change_of, routed, routed_by}
 use Rattle.routes.proofs.Bytes.{dump_length, change_length}
-use Rattle.routes.proofs.Dealt.{timed_placed, track_in_order}
+use Rattle.routes.proofs.Dealt.{track_in_order}
+use Rattle.event_stream.proofs.Dealing.{timed_placed}
 use Rattle.routes.proofs.Premises.{ShortLaws}
 
 -- ---- sums

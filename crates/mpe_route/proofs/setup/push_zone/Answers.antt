@@ -1,4 +1,4 @@
-use Rattle.std.proofs.Common.{◌≡◌, ◌<◌, ◌≤◌, ◌+◌, ◌-◌, ◌*◌, ◌++◌, List, length, sym, ap, ◌∙◌, arith, length-append, append_assoc}
+use Rattle.std.proofs.Common.{◌+◌, ◌-◌, ◌++◌, List, length, sym, ap, ◌∙◌, arith, length-append, append_assoc}
 use Rattle.mt_base.specs.declared.event.Msg.{Msg}
 use Rattle.midi_model.specs.Bring.{registered}
 use Rattle.channel_model.specs.MpeOutput.{member_at, members_from, range_each}

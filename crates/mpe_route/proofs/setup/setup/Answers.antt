@@ -1,4 +1,4 @@
-use Rattle.std.proofs.Common.{◌≡◌, ◌≤◌, ◌+◌, ◌*◌, ◌++◌, ◌∙◌, Some, length, sym, ap, subst, arith, length-append}
+use Rattle.std.proofs.Common.{◌≤◌, ◌+◌, ◌*◌, ◌∙◌, Some, length, sym, ap, subst, arith, length-append}
 use Rattle.channel_model.specs.MpeOutput.{zone_setup}
 use Rattle.channel_plan.specs.Told.{zone_in}
 use Rattle.mpe_route.specs.Zones.{zone_from, zones_from, AreSmall}

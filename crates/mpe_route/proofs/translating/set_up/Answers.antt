@@ -1,4 +1,4 @@
-use Rattle.std.proofs.Common.{true, List, sym, ap, subst, ◌∙◌}
+use Rattle.std.proofs.Common.{List, sym, ap, subst, ◌∙◌}
 use Rattle.mt_base.specs.declared.event.Msg.{Msg}
 use Rattle.mt_base.specs.Midi.{view}
 use Rattle.routes.specs.Putting.{AllMayPut, put_all, said_at, IsFront}

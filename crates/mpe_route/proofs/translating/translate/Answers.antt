@@ -1,4 +1,4 @@
-use Rattle.std.proofs.Common.{◌≡◌, ◌<◌, ◌≤◌, ◌+◌, ◌∙◌, ◌++◌, ◌∷◌, [], ℕ, suc, List, None, length, take, drop, refl, sym, ap, subst, arith, rules}
+use Rattle.std.proofs.Common.{◌≡◌, ◌<◌, ◌+◌, ◌∙◌, ◌++◌, ◌∷◌, [], ℕ, suc, List, None, length, take, drop, refl, sym, ap, subst, arith, rules}
 use Rattle.std.specs.List.{AllByRecursion}
 use Rattle.std.proofs.lemmas.List.{take-append-drop}
 use Rattle.mt_base.specs.Midi.{view, MidiEvent}
@@ -14,7 +14,7 @@ use Rattle.routes.specs.Putting.{IsPut}
 use Rattle.channel_model.specs.Rows.{zones_on}
 use Rattle.retune_model.specs.Ports.{events_on}
 use Rattle.routes.proofs.Puts.{more_put, may_next, front_of, on_err}
-use Rattle.channel_plan.proofs.Surveyed.{next_rest, next_comes, is_last}
+use Rattle.channel_plan.proofs.Surveyed.{next_rest, next_comes}
 use Rattle.channel_plan.proofs.Goes.{not_faulty, not_told}
 use Rattle.mpe_route.specs.Planned.{zoned}
 use Rattle.mpe_route.specs.Laws.{IsZonable}
@@ -25,6 +25,7 @@ use Rattle.mpe_route.proofs.PlannedZones.{zones_are, small}
 use Rattle.mpe_route.proofs.Source.{is_mpe}
 use Rattle.mpe_route.proofs.Block.{note_of}
 use Rattle.mpe_route.proofs.Passing.{Passing, begins, later, block_put, given_put, turn, passes}
+use Rattle.mpe_route.proofs.Turns.{IsTurn, told_turn, turn_put}
 use Rattle.mpe_route.proofs.translating.translate.Goals as goal
 
 pub events-init : goal.events-init
@@ -80,6 +81,8 @@ events-init g c =
       valid = subst (λ (l : List MidiEvent). AllByRecursion IsValidEvent l) (sym is) c.requires.asked.valid;
       tracks = subst (λ (l : List MidiEvent). AllByRecursion (λ e. e.track < 1024) l) (sym is) c.requires.asked.tracks;
       stands = c.requires.start;
+      kit = kit;
+      zonable = h;
       passing = begins kit o table es plan h c.new-kept.result (g.S.EventStream.rest c.rewind.new.self) c.args.out.now is c.new-kept.ensures.begun
           c.new-kept.ensures.bends;
     }
@@ -110,13 +113,7 @@ pass_on-requires-clause-small g c =
     let es = g.S.EventStream.all c.args.stream.now in
     let plan = c.args.plan.now in
     let laws = c.passing_laws.ensures in
-    let h : IsZonable o table es plan = record {
-      route = c.requires.route;
-      range = c.requires.range;
-      valid = c.requires.asked.valid;
-      in_order = c.requires.asked.order;
-      planned = c.requires.plan;
-    } in
+    let h : IsZonable o table es plan = c.events.invariant.zonable in
     let z = c.in-Ok.change.port in
     subst AreSmall (sym (zones_are o h.planned.allowed table es plan z h.route h.planned.gives))
     (small o (keeps_drums o (events_on z es)) (zones_on o table es z) ((is_mpe laws.serve o table es plan h).ports z).allowed)
@@ -127,40 +124,6 @@ pass_on-requires-clause-may g c =
     let table = g.T.Aims.table (table_in c.args.parts.now) in
     let es = g.S.EventStream.all c.args.stream.now in
     let plan = c.args.plan.now in
-    let laws = c.passing_laws.ensures in
-    let kit : Kit = record {
-      age = laws.age;
-      one = laws.one_note;
-      laws = record { settle = laws.settled; fade = laws.fade; zones = laws.zones };
-      facts = record {
-        within = laws.within;
-        sounding = laws.sounding;
-        next = laws.next;
-        one = laws.one_begins;
-        reset = laws.reset;
-        aimed = laws.aimed;
-        fine = laws.fine;
-        timed = laws.timed;
-        parts = laws.parts;
-        free = laws.free;
-      };
-      events = record { taken = laws.taken; begun = laws.of_event; aimed = laws.event_aimed; reset = laws.resets; events = laws.events };
-      music = laws.music_taken;
-      played = laws.music;
-      begun = laws.begun;
-      next = laws.event;
-      serve = laws.serve;
-      follows = laws.follows;
-      source = laws.source;
-      left = laws.left;
-    } in
-    let h : IsZonable o table es plan = record {
-      route = c.requires.route;
-      range = c.requires.range;
-      valid = c.requires.asked.valid;
-      in_order = c.requires.asked.order;
-      planned = c.requires.plan;
-    } in
     let e = view c.in-Some.event in
     let i = c.events.invariant in
     let rest = g.S.EventStream.rest c.events.stream in
@@ -168,33 +131,18 @@ pass_on-requires-clause-may g c =
     let k = c.events.position in
     let front = take k es in
     let comes : ComesAt es k e = next_comes es more k e (sym i.rest ∙ c.in-Some.ensures.some) in
-    let low : k < length es = (laws.taken es k e comes).2 in
+    let low : k < length es = (i.kit.events.taken es k e comes).2 in
     let z = c.in-Ok.change.port in
     let byte : z < 256 = search rules in
-    let tells : TellsChange o table front e c.in-Ok.change =
-    subst (λ t. TellsChange o (g.T.Aims.table t) front e c.in-Ok.change) i.table
-    (subst (λ (x : Options). TellsChange x (g.T.Aims.table (table_in c.events.parts)) front e c.in-Ok.change) i.options
-    (c.in-Ok.ensures.change front i.stands)) in
-    let here : port_on front e ≡ z = sym tells.port in
-    let begun : c.played_if-begun.result ≡ played_if plan (begun_by o table z (suc (count_begun o front)) e.tick e.what) =
-    c.played_if-begun.ensures ∙ ap (played_if plan) tells.begun
-    ∙ ap (λ y. played_if plan (begun_by o table y (suc (count_begun o front)) e.tick e.what)) here in
-    let released : c.released-released.result ≡ released_by o table front plan z e.what =
-    c.released-released.ensures front i.stands
-    ∙ ap (λ (x : Options). released_by x (g.T.Aims.table (table_in c.events.parts)) front plan (port_on front e) e.what) i.options
-    ∙ ap (λ t. released_by o (g.T.Aims.table t) front plan (port_on front e) e.what) i.table
-    ∙ ap (λ y. released_by o table front plan y e.what) here in
-    let note = note_of o table front plan z e.tick e.what in
-    let same : either c.played_if-begun.result c.released-released.result ≡ note =
-    ap (λ x. either x c.released-released.result) begun
-    ∙ ap (either (played_if plan (begun_by o table z (suc (count_begun o front)) e.tick e.what))) released in
+    let t : IsTurn o table plan front e z c.played_if-begun.result c.released-released.result =
+    told_turn o (asked c.events.parts) table (g.T.Aims.table (table_in c.events.parts)) plan front e c.in-Ok.change _ _ i.options
+    (ap (g.T.Aims.table) i.table) (c.in-Ok.ensures.change front i.stands) c.played_if-begun.ensures (c.released-released.ensures front i.stands) in
     let q = options_of c.options-options.result in
     let put = block_put q plan e z (either c.played_if-begun.result c.released-released.result) c.events.kept in
     let behind = later o table es plan (suc k) more in
     let next : IsPut c.args.out.now (zoned o table es plan) (put ++ behind) c.events.out =
-    subst (λ l. IsPut c.args.out.now (zoned o table es plan) (l ++ behind) c.events.out)
-    (given_put o q plan e z note (either c.played_if-begun.result c.released-released.result) c.events.kept c.options-options.ensures same)
-    (turn kit o table es plan h k e rest more c.events.kept c.args.out.now c.events.out i.passing c.in-Some.ensures.some comes low z byte here) in
+    turn_put i.kit o q table es plan i.zonable k e rest more c.events.kept c.args.out.now c.events.out i.passing c.in-Some.ensures.some comes low
+    c.options-options.ensures z byte _ _ t in
     may_next c.args.out.now (zoned o table es plan) put behind c.events.out c.requires.may next
 
 pub events-preserved : goal.events-preserved
@@ -203,40 +151,6 @@ events-preserved g c =
     let table = g.T.Aims.table (table_in c.args.parts.now) in
     let es = g.S.EventStream.all c.args.stream.now in
     let plan = c.args.plan.now in
-    let laws = c.passing_laws.ensures in
-    let kit : Kit = record {
-      age = laws.age;
-      one = laws.one_note;
-      laws = record { settle = laws.settled; fade = laws.fade; zones = laws.zones };
-      facts = record {
-        within = laws.within;
-        sounding = laws.sounding;
-        next = laws.next;
-        one = laws.one_begins;
-        reset = laws.reset;
-        aimed = laws.aimed;
-        fine = laws.fine;
-        timed = laws.timed;
-        parts = laws.parts;
-        free = laws.free;
-      };
-      events = record { taken = laws.taken; begun = laws.of_event; aimed = laws.event_aimed; reset = laws.resets; events = laws.events };
-      music = laws.music_taken;
-      played = laws.music;
-      begun = laws.begun;
-      next = laws.event;
-      serve = laws.serve;
-      follows = laws.follows;
-      source = laws.source;
-      left = laws.left;
-    } in
-    let h : IsZonable o table es plan = record {
-      route = c.requires.route;
-      range = c.requires.range;
-      valid = c.requires.asked.valid;
-      in_order = c.requires.asked.order;
-      planned = c.requires.plan;
-    } in
     let e = view c.in-Some.event in
     let i = c.events.invariant in
     let rest = g.S.EventStream.rest c.events.stream in
@@ -244,33 +158,18 @@ events-preserved g c =
     let k = c.events.position in
     let front = take k es in
     let comes : ComesAt es k e = next_comes es more k e (sym i.rest ∙ c.in-Some.ensures.some) in
-    let low : k < length es = (laws.taken es k e comes).2 in
+    let low : k < length es = (i.kit.events.taken es k e comes).2 in
     let z = c.in-Ok.change.port in
     let byte : z < 256 = search rules in
-    let tells : TellsChange o table front e c.in-Ok.change =
-    subst (λ t. TellsChange o (g.T.Aims.table t) front e c.in-Ok.change) i.table
-    (subst (λ (x : Options). TellsChange x (g.T.Aims.table (table_in c.events.parts)) front e c.in-Ok.change) i.options
-    (c.in-Ok.ensures.change front i.stands)) in
-    let here : port_on front e ≡ z = sym tells.port in
-    let begun : c.played_if-begun.result ≡ played_if plan (begun_by o table z (suc (count_begun o front)) e.tick e.what) =
-    c.played_if-begun.ensures ∙ ap (played_if plan) tells.begun
-    ∙ ap (λ y. played_if plan (begun_by o table y (suc (count_begun o front)) e.tick e.what)) here in
-    let released : c.released-released.result ≡ released_by o table front plan z e.what =
-    c.released-released.ensures front i.stands
-    ∙ ap (λ (x : Options). released_by x (g.T.Aims.table (table_in c.events.parts)) front plan (port_on front e) e.what) i.options
-    ∙ ap (λ t. released_by o (g.T.Aims.table t) front plan (port_on front e) e.what) i.table
-    ∙ ap (λ y. released_by o table front plan y e.what) here in
-    let note = note_of o table front plan z e.tick e.what in
-    let same : either c.played_if-begun.result c.released-released.result ≡ note =
-    ap (λ x. either x c.released-released.result) begun
-    ∙ ap (either (played_if plan (begun_by o table z (suc (count_begun o front)) e.tick e.what))) released in
+    let t : IsTurn o table plan front e z c.played_if-begun.result c.released-released.result =
+    told_turn o (asked c.events.parts) table (g.T.Aims.table (table_in c.events.parts)) plan front e c.in-Ok.change _ _ i.options
+    (ap (g.T.Aims.table) i.table) (c.in-Ok.ensures.change front i.stands) c.played_if-begun.ensures (c.released-released.ensures front i.stands) in
     let q = options_of c.options-options.result in
     let put = block_put q plan e z (either c.played_if-begun.result c.released-released.result) c.events.kept in
     let behind = later o table es plan (suc k) more in
     let next : IsPut c.args.out.now (zoned o table es plan) (put ++ behind) c.events.out =
-    subst (λ l. IsPut c.args.out.now (zoned o table es plan) (l ++ behind) c.events.out)
-    (given_put o q plan e z note (either c.played_if-begun.result c.released-released.result) c.events.kept c.options-options.ensures same)
-    (turn kit o table es plan h k e rest more c.events.kept c.args.out.now c.events.out i.passing c.in-Some.ensures.some comes low z byte here) in
+    turn_put i.kit o q table es plan i.zonable k e rest more c.events.kept c.args.out.now c.events.out i.passing c.in-Some.ensures.some comes low
+    c.options-options.ensures z byte _ _ t in
     let some = c.in-Some.ensures.some in
     let order = subst (λ (l : List MidiEvent). AreInOrder (tick_of c.events.parts) l) some i.order in
     let one : suc k ≡ k + 1 = omega arith in
@@ -285,10 +184,12 @@ events-preserved g c =
       valid = (subst (λ (l : List MidiEvent). AllByRecursion IsValidEvent l) some i.valid).1;
       tracks = (subst (λ (l : List MidiEvent). AllByRecursion (λ x. x.track < 1024) l) some i.tracks).1;
       stands = subst (λ l. Stands (g.T.Aims.table (table_in c.step.new.self)) c.step.new.self l)
-          (sym (laws.taken es k e comes).0 ∙ ap (λ (n : ℕ). take n es) one) (c.in-Ok.ensures.stands front i.stands);
+          (sym (i.kit.events.taken es k e comes).0 ∙ ap (λ (n : ℕ). take n es) one) (c.in-Ok.ensures.stands front i.stands);
+      kit = i.kit;
+      zonable = i.zonable;
       passing = subst (λ (n : ℕ). Passing o table es plan n more c.pass_on.new.kept c.args.out.now c.pass_on.new.out) one
-          (passes kit o table es plan h k e rest more c.events.kept c.pass_on.new.kept c.args.out.now c.events.out c.pass_on.new.out z
-          c.played_if-begun.result i.passing comes low byte here begun c.in_ok-pass_on.ensures.begun c.in_ok-pass_on.ensures.bends
+          (passes i.kit o table es plan i.zonable k e rest more c.events.kept c.pass_on.new.kept c.args.out.now c.events.out c.pass_on.new.out z
+          c.played_if-begun.result i.passing comes low byte t.here t.begun c.in_ok-pass_on.ensures.begun c.in_ok-pass_on.ensures.bends
           (more_put c.args.out.now (zoned o table es plan) put behind c.events.out c.pass_on.new.out next c.in_ok-pass_on.ensures.put));
     }
 
@@ -298,40 +199,6 @@ returns-in_err-pass_on-clause-front g c =
     let table = g.T.Aims.table (table_in c.args.parts.now) in
     let es = g.S.EventStream.all c.args.stream.now in
     let plan = c.args.plan.now in
-    let laws = c.passing_laws.ensures in
-    let kit : Kit = record {
-      age = laws.age;
-      one = laws.one_note;
-      laws = record { settle = laws.settled; fade = laws.fade; zones = laws.zones };
-      facts = record {
-        within = laws.within;
-        sounding = laws.sounding;
-        next = laws.next;
-        one = laws.one_begins;
-        reset = laws.reset;
-        aimed = laws.aimed;
-        fine = laws.fine;
-        timed = laws.timed;
-        parts = laws.parts;
-        free = laws.free;
-      };
-      events = record { taken = laws.taken; begun = laws.of_event; aimed = laws.event_aimed; reset = laws.resets; events = laws.events };
-      music = laws.music_taken;
-      played = laws.music;
-      begun = laws.begun;
-      next = laws.event;
-      serve = laws.serve;
-      follows = laws.follows;
-      source = laws.source;
-      left = laws.left;
-    } in
-    let h : IsZonable o table es plan = record {
-      route = c.requires.route;
-      range = c.requires.range;
-      valid = c.requires.asked.valid;
-      in_order = c.requires.asked.order;
-      planned = c.requires.plan;
-    } in
     let e = view c.in-Some.event in
     let i = c.events.invariant in
     let rest = g.S.EventStream.rest c.events.stream in
@@ -339,32 +206,17 @@ returns-in_err-pass_on-clause-front g c =
     let k = c.events.position in
     let front = take k es in
     let comes : ComesAt es k e = next_comes es more k e (sym i.rest ∙ c.in-Some.ensures.some) in
-    let low : k < length es = (laws.taken es k e comes).2 in
+    let low : k < length es = (i.kit.events.taken es k e comes).2 in
     let z = c.in-Ok.change.port in
     let byte : z < 256 = search rules in
-    let tells : TellsChange o table front e c.in-Ok.change =
-    subst (λ t. TellsChange o (g.T.Aims.table t) front e c.in-Ok.change) i.table
-    (subst (λ (x : Options). TellsChange x (g.T.Aims.table (table_in c.events.parts)) front e c.in-Ok.change) i.options
-    (c.in-Ok.ensures.change front i.stands)) in
-    let here : port_on front e ≡ z = sym tells.port in
-    let begun : c.played_if-begun.result ≡ played_if plan (begun_by o table z (suc (count_begun o front)) e.tick e.what) =
-    c.played_if-begun.ensures ∙ ap (played_if plan) tells.begun
-    ∙ ap (λ y. played_if plan (begun_by o table y (suc (count_begun o front)) e.tick e.what)) here in
-    let released : c.released-released.result ≡ released_by o table front plan z e.what =
-    c.released-released.ensures front i.stands
-    ∙ ap (λ (x : Options). released_by x (g.T.Aims.table (table_in c.events.parts)) front plan (port_on front e) e.what) i.options
-    ∙ ap (λ t. released_by o (g.T.Aims.table t) front plan (port_on front e) e.what) i.table
-    ∙ ap (λ y. released_by o table front plan y e.what) here in
-    let note = note_of o table front plan z e.tick e.what in
-    let same : either c.played_if-begun.result c.released-released.result ≡ note =
-    ap (λ x. either x c.released-released.result) begun
-    ∙ ap (either (played_if plan (begun_by o table z (suc (count_begun o front)) e.tick e.what))) released in
+    let t : IsTurn o table plan front e z c.played_if-begun.result c.released-released.result =
+    told_turn o (asked c.events.parts) table (g.T.Aims.table (table_in c.events.parts)) plan front e c.in-Ok.change _ _ i.options
+    (ap (g.T.Aims.table) i.table) (c.in-Ok.ensures.change front i.stands) c.played_if-begun.ensures (c.released-released.ensures front i.stands) in
     let q = options_of c.options-options.result in
     let put = block_put q plan e z (either c.played_if-begun.result c.released-released.result) c.events.kept in
     let behind = later o table es plan (suc k) more in
     let next : IsPut c.args.out.now (zoned o table es plan) (put ++ behind) c.events.out =
-    subst (λ l. IsPut c.args.out.now (zoned o table es plan) (l ++ behind) c.events.out)
-    (given_put o q plan e z note (either c.played_if-begun.result c.released-released.result) c.events.kept c.options-options.ensures same)
-    (turn kit o table es plan h k e rest more c.events.kept c.args.out.now c.events.out i.passing c.in-Some.ensures.some comes low z byte here) in
+    turn_put i.kit o q table es plan i.zonable k e rest more c.events.kept c.args.out.now c.events.out i.passing c.in-Some.ensures.some comes low
+    c.options-options.ensures z byte _ _ t in
     on_err _ c.from_residual.result
     (front_of c.args.out.now (zoned o table es plan) put behind c.events.out c.pass_on.new.out next c.in_err-pass_on.ensures.front)

@@ -3,6 +3,8 @@ use Rattle.std.specs.List.{AllByRecursion}
 use Rattle.mt_base.specs.Valid.{IsValidEvent}
 use Rattle.midi_model.specs.Order.{AreInOrder}
 use Rattle.lifetimes.specs.Stands.{Stands, asked, table_in, position_of, tick_of}
+use Rattle.mpe_route.specs.Laws.{IsZonable}
+use Rattle.mpe_route.proofs.Kit.{Kit}
 use Rattle.mpe_route.proofs.Passing.{Passing}
 use Rattle.mpe_route.proofs.translating.translate.Given as goal
 
@@ -18,6 +20,8 @@ invariant-events g l = record {
   valid : AllByRecursion IsValidEvent (g.S.EventStream.rest l.stream);
   tracks : AllByRecursion (λ e. e.track < 1024) (g.S.EventStream.rest l.stream);
   stands : Stands (g.T.Aims.table (table_in l.parts)) l.parts (take l.position (g.S.EventStream.all l.fn.stream));
+  kit : Kit;
+  zonable : IsZonable (asked l.fn.parts) (g.T.Aims.table (table_in l.fn.parts)) (g.S.EventStream.all l.fn.stream) l.plan;
   passing : Passing (asked l.fn.parts) (g.T.Aims.table (table_in l.fn.parts)) (g.S.EventStream.all l.fn.stream) l.plan l.position
       (g.S.EventStream.rest l.stream) l.kept l.fn.out l.out;
 }

@@ -1,111 +1,75 @@
-use Rattle.std.proofs.Common.{◌∷◌, ◌++◌, Bool, ◌&&◌, sym, subst}
-use Rattle.mt_base.specs.Midi.{view}
+use Rattle.std.proofs.Common.{ℕ, List, ◌∷◌, Bool, ◌&&◌, ◌≡◌}
+use Rattle.mt_base.specs.Midi.{view, MidiEvent}
+use Rattle.midi_model.specs.Writing.{Written}
 use Rattle.event_stream.specs.Distributed.{MayPut}
-use Rattle.routes.specs.Device.{resets_all}
-use Rattle.routes.specs.Putting.{IsPut}
-use Rattle.routes.proofs.Puts.{not_begun, more_put, one_put, may_still, may_next, may_first, last_put, stopped, if_ok, if_err, on_err}
+use Rattle.routes.specs.Device.{is_first, resets_all}
+use Rattle.routes.specs.Putting.{put_one, put_all, IsPut}
+use Rattle.routes.proofs.Puts.{not_begun, one_put, may_still, may_first, stopped, if_ok, if_err, on_err}
+use Rattle.routes.proofs.Around.{Around, whole, may_before, put_before, may_after, put_after}
 use Rattle.octave_route.specs.Putting as spec
 use Rattle.octave_route.proofs.translating.put_block.Goals as goal
 
+-- an event, and the setup around it
+abbrev block : List Written → ℕ → List ℕ → Bool → MidiEvent → Around
+block old mask values begun e =
+    let again = begun && resets_all e.what in
+    record {
+      old = old;
+      setup = λ b. spec.setup_if b mask values e;
+      first = is_first begun e.what;
+      rest = e ∷ spec.setup_if again mask values e;
+      again = again;
+    }
+
+-- it is put so far as it stands in front of the last setup
+passed : (old : List Written) (mask : ℕ) (values : List ℕ) (begun : Bool) (e : MidiEvent) (asked : Bool) (a b : List Written)
+    → asked ≡ is_first begun e.what → a ≡ put_all old (spec.setup_if asked mask values e) → b ≡ put_one a e
+    → IsPut old (spec.block_events mask values begun e) (spec.setup_if (begun && resets_all e.what) mask values e) b
+passed old mask values begun e asked a b is first put =
+    let k = block old mask values begun e in
+    one_put old (spec.block_events mask values begun e) e (k.setup k.again) a b (put_before k asked a is first) put
+
 pub put_setup-requires-clause-may : goal.put_setup-requires-clause-may
 put_setup-requires-clause-may c =
-    let e = view c.args.event.now in
-    let vs = c.args.values.now in
-    let again = spec.setup_if (c.args.begun && resets_all e.what) c.args.channels vs e in
-    let whole = spec.block_events c.args.channels vs c.args.begun e in
-    let first = spec.setup_if c.is_first-first.result c.args.channels vs e in
-    let start : IsPut c.args.out.now whole (first ++ e ∷ again) c.args.out.now =
-    subst (λ (b : Bool). IsPut c.args.out.now whole (spec.setup_if b c.args.channels vs e ++ e ∷ again) c.args.out.now)
-    (sym c.is_first-first.ensures) (not_begun c.args.out.now whole) in
-    may_next c.args.out.now whole first (e ∷ again) c.args.out.now c.requires.may start
+    let k = block c.args.out.now c.args.channels c.args.values.now c.args.begun (view c.args.event.now) in
+    may_before k _ c.is_first-first.ensures c.requires.may
 
 pub returns-in_err-put_setup-clause-front : goal.returns-in_err-put_setup-clause-front
 returns-in_err-put_setup-clause-front c =
-    let whole = spec.block_events c.args.channels c.args.values.now c.args.begun (view c.args.event.now) in
+    let k = block c.args.out.now c.args.channels c.args.values.now c.args.begun (view c.args.event.now) in
     on_err _ c.from_residual.result
-    (stopped c.args.out.now whole whole c.args.out.now c.put_setup.new.out (not_begun c.args.out.now whole) c.in_err-put_setup.ensures.unchanged)
+    (stopped k.old (whole k) (whole k) k.old _ (not_begun k.old (whole k)) c.in_err-put_setup.ensures.unchanged)
 
 pub put-requires : goal.put-requires
 put-requires c =
-    let e = view c.args.event.now in
-    let vs = c.args.values.now in
-    let again = spec.setup_if (c.args.begun && resets_all e.what) c.args.channels vs e in
-    let whole = spec.block_events c.args.channels vs c.args.begun e in
-    let first = spec.setup_if c.is_first-first.result c.args.channels vs e in
-    let start : IsPut c.args.out.now whole (first ++ e ∷ again) c.args.out.now =
-    subst (λ (b : Bool). IsPut c.args.out.now whole (spec.setup_if b c.args.channels vs e ++ e ∷ again) c.args.out.now)
-    (sym c.is_first-first.ensures) (not_begun c.args.out.now whole) in
-    let set_up : IsPut c.args.out.now whole (e ∷ again) c.put_setup.new.out = more_put c.args.out.now whole first
-    (e ∷ again) c.args.out.now c.put_setup.new.out start c.in_ok-put_setup.ensures.put in
-    let may : MayPut c.put_setup.new.out e = may_first c.put_setup.new.out e again
-    (may_still c.args.out.now whole (e ∷ again) c.put_setup.new.out c.requires.may set_up) in
+    let k = block c.args.out.now c.args.channels c.args.values.now c.args.begun (view c.args.event.now) in
+    let may : MayPut c.put_setup.new.out (view c.args.event.now) = may_first _ _ _ (may_still k.old (whole k) k.rest _ c.requires.may
+    (put_before k _ _ c.is_first-first.ensures c.in_ok-put_setup.ensures.put)) in
     record { valid = may.valid; exists = may.exists; «open» = may.open_still; order = may.in_order }
 
 pub returns-in_err-put-clause-front : goal.returns-in_err-put-clause-front
 returns-in_err-put-clause-front c =
-    let e = view c.args.event.now in
-    let vs = c.args.values.now in
-    let again = spec.setup_if (c.args.begun && resets_all e.what) c.args.channels vs e in
-    let whole = spec.block_events c.args.channels vs c.args.begun e in
-    let first = spec.setup_if c.is_first-first.result c.args.channels vs e in
-    let start : IsPut c.args.out.now whole (first ++ e ∷ again) c.args.out.now =
-    subst (λ (b : Bool). IsPut c.args.out.now whole (spec.setup_if b c.args.channels vs e ++ e ∷ again) c.args.out.now)
-    (sym c.is_first-first.ensures) (not_begun c.args.out.now whole) in
-    let set_up : IsPut c.args.out.now whole (e ∷ again) c.put_setup.new.out = more_put c.args.out.now whole first
-    (e ∷ again) c.args.out.now c.put_setup.new.out start c.in_ok-put_setup.ensures.put in
-    on_err _ c.from_residual-in_err-put.result
-    (stopped c.args.out.now whole (e ∷ again) c.put_setup.new.out c.put.new.self set_up c.in_err-put.ensures.unchanged)
+    let k = block c.args.out.now c.args.channels c.args.values.now c.args.begun (view c.args.event.now) in
+    on_err _ c.from_residual-in_err-put.result (stopped k.old (whole k) k.rest _ _
+    (put_before k _ _ c.is_first-first.ensures c.in_ok-put_setup.ensures.put) c.in_err-put.ensures.unchanged)
 
 pub put_setup-requires-2-clause-may : goal.put_setup-requires-2-clause-may
 put_setup-requires-2-clause-may c =
-    let e = view c.args.event.now in
-    let vs = c.args.values.now in
-    let again = spec.setup_if (c.args.begun && resets_all e.what) c.args.channels vs e in
-    let whole = spec.block_events c.args.channels vs c.args.begun e in
-    let first = spec.setup_if c.is_first-first.result c.args.channels vs e in
-    let start : IsPut c.args.out.now whole (first ++ e ∷ again) c.args.out.now =
-    subst (λ (b : Bool). IsPut c.args.out.now whole (spec.setup_if b c.args.channels vs e ++ e ∷ again) c.args.out.now)
-    (sym c.is_first-first.ensures) (not_begun c.args.out.now whole) in
-    let set_up : IsPut c.args.out.now whole (e ∷ again) c.put_setup.new.out = more_put c.args.out.now whole first
-    (e ∷ again) c.args.out.now c.put_setup.new.out start c.in_ok-put_setup.ensures.put in
-    let passed : IsPut c.args.out.now whole again c.put.new.self = one_put c.args.out.now whole e again c.put_setup.new.out c.put.new.self set_up
-    c.in_ok-put.ensures.appended in
-    let last : IsPut c.args.out.now whole (spec.setup_if c.is_again-again.result c.args.channels vs e) c.put.new.self =
-    subst (λ (b : Bool). IsPut c.args.out.now whole (spec.setup_if b c.args.channels vs e) c.put.new.self) (sym c.is_again-again.ensures) passed in
-    may_still c.args.out.now whole (spec.setup_if c.is_again-again.result c.args.channels vs e) c.put.new.self c.requires.may last
+    let k = block c.args.out.now c.args.channels c.args.values.now c.args.begun (view c.args.event.now) in
+    let here = passed c.args.out.now c.args.channels c.args.values.now c.args.begun (view c.args.event.now) _ _ _
+    c.is_first-first.ensures c.in_ok-put_setup.ensures.put c.in_ok-put.ensures.appended in
+    may_after k _ _ c.is_again-again.ensures c.requires.may here
 
 pub returns-clause-put : goal.returns-clause-put
 returns-clause-put c =
-    let e = view c.args.event.now in
-    let vs = c.args.values.now in
-    let again = spec.setup_if (c.args.begun && resets_all e.what) c.args.channels vs e in
-    let whole = spec.block_events c.args.channels vs c.args.begun e in
-    let first = spec.setup_if c.is_first-first.result c.args.channels vs e in
-    let start : IsPut c.args.out.now whole (first ++ e ∷ again) c.args.out.now =
-    subst (λ (b : Bool). IsPut c.args.out.now whole (spec.setup_if b c.args.channels vs e ++ e ∷ again) c.args.out.now)
-    (sym c.is_first-first.ensures) (not_begun c.args.out.now whole) in
-    let set_up : IsPut c.args.out.now whole (e ∷ again) c.put_setup.new.out = more_put c.args.out.now whole first
-    (e ∷ again) c.args.out.now c.put_setup.new.out start c.in_ok-put_setup.ensures.put in
-    let passed : IsPut c.args.out.now whole again c.put.new.self = one_put c.args.out.now whole e again c.put_setup.new.out c.put.new.self set_up
-    c.in_ok-put.ensures.appended in
-    let last : IsPut c.args.out.now whole (spec.setup_if c.is_again-again.result c.args.channels vs e) c.put.new.self =
-    subst (λ (b : Bool). IsPut c.args.out.now whole (spec.setup_if b c.args.channels vs e) c.put.new.self) (sym c.is_again-again.ensures) passed in
-    if_ok _ _ c.put_setup-2.result (λ h. last_put c.args.out.now whole
-    (spec.setup_if c.is_again-again.result c.args.channels vs e) c.put.new.self c.put_setup-2.new.out last h) c.put_setup-2.ensures.put
+    let k = block c.args.out.now c.args.channels c.args.values.now c.args.begun (view c.args.event.now) in
+    let here = passed c.args.out.now c.args.channels c.args.values.now c.args.begun (view c.args.event.now) _ _ _
+    c.is_first-first.ensures c.in_ok-put_setup.ensures.put c.in_ok-put.ensures.appended in
+    if_ok _ _ c.put_setup-2.result (put_after k _ _ _ c.is_again-again.ensures here) c.put_setup-2.ensures.put
 
 pub returns-clause-front : goal.returns-clause-front
 returns-clause-front c =
-    let e = view c.args.event.now in
-    let vs = c.args.values.now in
-    let again = spec.setup_if (c.args.begun && resets_all e.what) c.args.channels vs e in
-    let whole = spec.block_events c.args.channels vs c.args.begun e in
-    let first = spec.setup_if c.is_first-first.result c.args.channels vs e in
-    let start : IsPut c.args.out.now whole (first ++ e ∷ again) c.args.out.now =
-    subst (λ (b : Bool). IsPut c.args.out.now whole (spec.setup_if b c.args.channels vs e ++ e ∷ again) c.args.out.now)
-    (sym c.is_first-first.ensures) (not_begun c.args.out.now whole) in
-    let set_up : IsPut c.args.out.now whole (e ∷ again) c.put_setup.new.out = more_put c.args.out.now whole first
-    (e ∷ again) c.args.out.now c.put_setup.new.out start c.in_ok-put_setup.ensures.put in
-    let passed : IsPut c.args.out.now whole again c.put.new.self = one_put c.args.out.now whole e again c.put_setup.new.out c.put.new.self set_up
-    c.in_ok-put.ensures.appended in
-    if_err _ _ c.put_setup-2.result (λ h. stopped c.args.out.now whole again c.put.new.self c.put_setup-2.new.out passed h)
-    c.put_setup-2.ensures.unchanged
+    let k = block c.args.out.now c.args.channels c.args.values.now c.args.begun (view c.args.event.now) in
+    let here = passed c.args.out.now c.args.channels c.args.values.now c.args.begun (view c.args.event.now) _ _ _
+    c.is_first-first.ensures c.in_ok-put_setup.ensures.put c.in_ok-put.ensures.appended in
+    if_err _ _ c.put_setup-2.result (stopped k.old (whole k) (k.setup k.again) _ _ here) c.put_setup-2.ensures.unchanged

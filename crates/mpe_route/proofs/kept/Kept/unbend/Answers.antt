@@ -1,6 +1,6 @@
-use Rattle.std.proofs.Common.{◌≡◌, ◌<◌, ◌≤◌, ◌∙◌, ◌&&◌, ℕ, cond, nat_eq, refl, sym, ap, subst, arith}
+use Rattle.std.proofs.Common.{◌≡◌, ◌∙◌, ◌&&◌, cond, nat_eq, refl, ap, subst, arith}
 use Rattle.std.specs.Prelude.{IfSome}
-use Rattle.mpe_route.specs.Kept.{begun_in, bend_in, with_bend}
+use Rattle.mpe_route.specs.Kept.{bend_in, with_bend}
 use Rattle.mpe_route.proofs.Unbent.{unbent_first, unbent_next, unbent_last}
 use Rattle.mpe_route.proofs.kept.Kept.unbend.Goals as goal
 
