@@ -3,3 +3,4 @@ pub mod Putting
 pub mod Walks
 pub mod Each
 pub mod Telling
+pub mod Agreed

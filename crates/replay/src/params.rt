@@ -1,4 +1,4 @@
-ghost use Rattle.std.specs.Prelude.{◌≡◌, ◌≤◌, ℕ, List, length};
+ghost use Rattle.std.specs.Prelude.{◌≡◌, ◌≤◌, ℕ, List, [], length, IsTrue};
 ghost use Rattle.midi_model.specs.Bring.{choose_parameter, bring_parameter, bring_each, closed};
 ghost use Rattle.receiver.specs.Params.{parameter_of, entry_of, entries_of};
 ghost use Rattle.receiver.specs.State.{own_of, state_of};
@@ -24,6 +24,19 @@ const RPN_MSB: u8 = 101;
 
 /// The byte that, as both bytes of a number, names no parameter.
 const NULL: u8 = 127;
+
+/// Whether no parameter differs, as nearly always, so that it is seen without a list: none but the
+/// four that have their own places are away from their defaults, and these four are equal.
+fn has_params_of(now: &ChannelState, wanted: &ChannelState) -> bool
+    ensures { IsTrue result → changed (state_of now.now) (state_of wanted.now) ≡ [] }
+{
+    now.well_formed();
+    wanted.well_formed();
+    if now.others.len() + wanted.others.len() > 0 {
+        return false;
+    }
+    now.fixed == wanted.fixed
+}
 
 /// The parameters that differ, with their wanted values: first those that are wanted at their defaults,
 /// then the others, each group in the order of numbers.
@@ -101,6 +114,9 @@ pub(crate) fn put_params<S: Sink>(
         (bring_each channel (own_of now.now).params
         (changed (state_of now.now) (state_of wanted.now)))) }
 {
+    if has_params_of(now, wanted) {
+        return;
+    }
     let changes = changes(now, wanted);
     put_each(channel, now, changes.as_slice(), out);
     if !changes.is_empty() {
