@@ -74,7 +74,7 @@ module _ (laws : Laws) (o : Options) (table : Targets) (es : List MidiEvent) (k 
 
     module _ (ended : Ends) (valid : AllByRecursion IsValidEvent front) (silent : o.tail ≡ 0) (tells : TellsEnds o (take k es) e ended) where
       pub still : (p : Pair) → among (pairs_on o part table es z k) p ≡ true
-          → (port_on (take k es) e ≡ p.part.port → (p.part.channel < 16) × (slice_index ended.keys p.part.channel ≡ 0))
+          → (port_on (take k es) e ≡ p.part.port → slice_index ended.keys p.part.channel ≡ 0)
           → is_held o table front p ≡ true
       still p here none =
           let whole = (laws.next es k e comes).0 in

@@ -1,5 +1,5 @@
 -- What the places of a row say, one by one.
-use Rattle.std.proofs.Common.{◌≡◌, ◌≤◌, ◌<◌, ◌+◌, ◌++◌, ℕ, zero, suc, List, [], ◌∷◌, true, false, not, Option, Some, None, is_some, length, map, take, drop, get_or, set, refl, sym, ap, ◌∙◌, arith, inl, inr}
+use Rattle.std.proofs.Common.{◌≡◌, ◌≤◌, ◌<◌, ◌+◌, ◌++◌, ℕ, zero, suc, Bool, if◌then◌else◌, IfSome, List, [], ◌∷◌, true, false, not, Option, Some, None, is_some, length, map, take, drop, get_or, set, refl, sym, ap, ◌∙◌, arith, inl, inr}
 use Rattle.std.specs.Option.{option_map}
 use Rattle.std.proofs.lemmas.Bool.{cases_lt}
 use Rattle.std.proofs.lemmas.List.{length-map, get_or-map, map-set}
@@ -9,7 +9,7 @@ use Rattle.midi_model.specs.Bring.{bring}
 use Rattle.mt_base.specs.declared.pair.Pair.{Pair as Packed}
 use Rattle.retune_model.specs.Pairs.{Pair}
 use Rattle.lifetimes.specs.Views.{pair_of}
-use Rattle.plan_laws.specs.Placing.{Seen, nowhere, seen_at, begun_on, begin_on, IsBestSeen}
+use Rattle.plan_laws.specs.Placing.{Seen, nowhere, seen_at, leave, leave_if, or_kept, begun_on, begin_on, IsBestSeen}
 use Rattle.plan_laws.specs.PlacingLaws.{AllAreNowhere}
 use Rattle.channel_plan.specs.declared.choice.Place.{Place}
 use Rattle.channel_plan.specs.Choosing.{setup_at, since_at, is_free_at, IsChosen, AreTaken}
@@ -50,6 +50,21 @@ still_there f xs places i d l same done =
     after_it f [] i m = absurd (omega (arith, m))
     after_it f (x ∷ xs) zero m = refl
     after_it f (x ∷ xs) (suc i) m = after_it f xs i (omega (arith, m))
+
+pub then_some : (x : Option Pair) (P Q : Pair → Type 0) → ((p : Pair) → P p → Q p) → IfSome x P → IfSome x Q
+then_some None P Q f h = tt
+then_some (Some p) P Q f h = f p h
+
+-- where the pair of each place is held, all are as they were
+pub all_held : (holds : Pair → Bool) (leaves : Pair → Option State) (k : ℕ) (ss : List Seen)
+    → ((c : ℕ) → IfSome (seen_at ss c).pair (λ p. holds p ≡ true)) → map (leave holds leaves k) ss ≡ ss
+all_held holds leaves k [] held = refl
+all_held holds leaves k (s ∷ ss) held =
+    ap (λ l. leave holds leaves k s ∷ l) (all_held holds leaves k ss (λ c. held (suc c))) ∙ ap (λ t. t ∷ ss) (one s.pair (held zero))
+  where
+    one : (x : Option Pair) → IfSome x (λ p. holds p ≡ true) → leave_if holds leaves k x s ≡ s
+    one None h = refl
+    one (Some p) h = ap (λ b. if b then s else (record { pair = None; left = or_kept s.left (leaves p); since = k })) h
 
 -- one free place more
 pub nowhere_more : (places : List Place) (x : Place) → AllAreNowhere (all_seen places) → seen x ≡ nowhere

@@ -53,28 +53,36 @@ either_true : (a b : Bool) → b ≡ true → (a || b) ≡ true
 either_true true b h = refl
 either_true false b h = h
 
--- ---- keys are below 128
+-- ---- keys are below 128, and channels below 16
 
-Low : Note → Type 0
-Low n = n.key < 128
+abbrev Low : Note → Type 0
+Low n = (n.channel < 16) × (n.key < 128)
 
-grown_low : (t : ℕ) (b ns xs : List Note) → Grows t b ns xs → AllByRecursion (λ n. n.key < 128) b → AllByRecursion (λ n. n.key < 128) ns
-    → AllByRecursion (λ n. n.key < 128) xs
-grown_low t b [] xs grows lb ln = subst (AllByRecursion (λ n. n.key < 128)) (sym grows) lb
+grown_low : (t : ℕ) (b ns xs : List Note) → Grows t b ns xs → AllByRecursion Low b → AllByRecursion Low ns
+    → AllByRecursion Low xs
+grown_low t b [] xs grows lb ln = subst (AllByRecursion Low) (sym grows) lb
 grown_low t b (n ∷ ns) [] grows lb ln = absurd grows
-grown_low t b (n ∷ ns) (x ∷ xs) grows lb ln = (omega (arith, grows.0.key, ln.0), grown_low t b ns xs grows.1 lb ln.1)
+grown_low t b (n ∷ ns) (x ∷ xs) grows lb ln =
+    let channel : x.channel ≡ n.channel = grows.0.channel in
+    let key : x.key ≡ n.key = grows.0.key in
+    let low = ln.0.0 in
+    let below = ln.0.1 in
+    ((omega (arith, channel, low), omega (arith, key, below)), grown_low t b ns xs grows.1 lb ln.1)
 
-begun_sysex : (m : Music) (t lead : ℕ) (bytes : List ℕ) → AllByRecursion (λ n. n.key < 128) (begun_by m t (doing (SysexOf lead bytes)))
+begun_sysex : (m : Music) (t lead : ℕ) (bytes : List ℕ) → AllByRecursion Low (begun_by m t (doing (SysexOf lead bytes)))
 begun_sysex m t lead bytes = pick (nat_eq lead 0xf0) (is_reset bytes) (tuning_of bytes)
   where
-    pick : (a b : Bool) (r : Option Retune) → AllByRecursion (λ n. n.key < 128) (begun_by m t (cond a (cond b Resets (tunes r)) Nothing))
+    pick : (a b : Bool) (r : Option Retune) → AllByRecursion Low (begun_by m t (cond a (cond b Resets (tunes r)) Nothing))
     pick false b r = tt
     pick true true r = tt
     pick true false None = tt
     pick true false (Some r) = tt
 
-begun_low : (m : Music) (t : ℕ) (w : MidiWhat) → IsValidWhat w → AllByRecursion (λ n. n.key < 128) (begun_by m t (doing w))
-begun_low m t (Says (NoteOn c k (suc v))) valid = (omega (arith, valid.1), tt)
+begun_low : (m : Music) (t : ℕ) (w : MidiWhat) → IsValidWhat w → AllByRecursion Low (begun_by m t (doing w))
+begun_low m t (Says (NoteOn c k (suc v))) valid =
+    let channel = valid.0 in
+    let key = valid.1 in
+    ((omega (arith, channel), omega (arith, key)), tt)
 begun_low m t (Says (NoteOn c k zero)) valid = tt
 begun_low m t (Says (NoteOff c k v)) valid = tt
 begun_low m t (Says (KeyPressure c k v)) valid = tt
@@ -85,8 +93,8 @@ begun_low m t (Says (Bend c v)) valid = tt
 begun_low m t (SysexOf lead bytes) valid = begun_sysex m t lead bytes
 begun_low m t (MetaOf kind bytes) valid = tt
 
-pub all_low : NotesAge → (m : Music) (es : List MidiEvent) → AllByRecursion IsValidEvent es → AllByRecursion (λ n. n.key < 128) m.notes
-    → AllByRecursion (λ n. n.key < 128) (play m es).notes
+pub all_low : NotesAge → (m : Music) (es : List MidiEvent) → AllByRecursion IsValidEvent es → AllByRecursion Low m.notes
+    → AllByRecursion Low (play m es).notes
 all_low age m [] valid low = low
 all_low age m (e ∷ es) valid low =
     all_low age (step m e) es valid.1 (grown_low e.tick (begun_by m e.tick (doing e.what)) m.notes (step m e).notes (age m e.tick (doing e.what))
@@ -151,9 +159,9 @@ module _ (more : HasOneMore) (o : Options) (table : Targets) (p : Pair) (z : ℕ
   c = p.part.channel
 
   abbrev NoneEnds : List Note → List Note → Type 0
-  NoneEnds ns xs = (k : ℕ) → k < 128 → (is_part o c && ended_on c k ns xs) ≡ false
+  NoneEnds ns xs = (k : ℕ) → c < 16 → k < 128 → (is_part o c && ended_on c k ns xs) ≡ false
 
-  sounding_still : (n x : Note) (ns xs : List Note) → Ages t n x → n.key < 128 → NoneEnds (n ∷ ns) (x ∷ xs) → on n ≡ true → nat_eq c n.channel ≡ true
+  sounding_still : (n x : Note) (ns xs : List Note) → Ages t n x → Low n → NoneEnds (n ∷ ns) (x ∷ xs) → on n ≡ true → nat_eq c n.channel ≡ true
       → ((qs : List Pair) → is_member is_same_pair (pair_if z n.channel (target_of o table n) qs) p ≡ true) → among (filter on (x ∷ xs)) ≡ true
   sounding_still n x ns xs ages low none is same all =
       let at : c ≡ n.channel = eqb-true c n.channel same in
@@ -163,7 +171,7 @@ module _ (more : HasOneMore) (o : Options) (table : Targets) (p : Pair) (z : ℕ
       let still : sounds x ≡ true =
       sound_after (is_part o c) (is_at c n.key n) (sounds n) (sounds x) (ended_on c n.key ns xs) (ap (is_part o) at ∙ part) here
       (other_part (is_part o n.channel) (sounds n) is)
-      (none n.key low) in
+      (let below = low.0 in none n.key (omega (arith, at, below)) low.1) in
       let now : on x ≡ true = both_true (is_part o x.channel) (sounds x) (ap (is_part o) ages.channel ∙ part) still in
       let qs : List Pair = pairs_of z o table (filter on xs) in
       ap (λ a. among (cond a (x ∷ filter on xs) (filter on xs))) now
@@ -172,7 +180,7 @@ module _ (more : HasOneMore) (o : Options) (table : Targets) (p : Pair) (z : ℕ
       ∙ ap (λ k. is_member is_same_pair (pair_if z n.channel (bend_target_if o.range (table n.key k)) qs) p) ages.onset
       ∙ all qs
 
-  one_still : (n x : Note) (ns xs : List Note) (a : Bool) → on n ≡ a → Ages t n x → n.key < 128 → NoneEnds (n ∷ ns) (x ∷ xs)
+  one_still : (n x : Note) (ns xs : List Note) (a : Bool) → on n ≡ a → Ages t n x → Low n → NoneEnds (n ∷ ns) (x ∷ xs)
       → (among (filter on ns) ≡ true → among (filter on xs) ≡ true)
       → among (cond a (n ∷ filter on ns) (filter on ns)) ≡ true → among (filter on (x ∷ xs)) ≡ true
   one_still n x ns xs false is ages low none rest h = skipped x xs (rest h)
@@ -181,14 +189,14 @@ module _ (more : HasOneMore) (o : Options) (table : Targets) (p : Pair) (z : ℕ
     | inr l ↦ skipped x xs (rest l)
   ]
 
-  pub stay : (ns xs : List Note) → Grows t b ns xs → AllByRecursion (λ n. n.key < 128) ns → NoneEnds ns xs
+  pub stay : (ns xs : List Note) → Grows t b ns xs → AllByRecursion Low ns → NoneEnds ns xs
       → among (filter on ns) ≡ true → among (filter on xs) ≡ true
   stay [] xs grows low none h = absurd cc
   stay (n ∷ ns) [] grows low none h = absurd grows
   stay (n ∷ ns) (x ∷ xs) grows low none h =
       one_still n x ns xs (on n) refl grows.0 low.0 none
-      (stay ns xs grows.1 low.1 (λ k below. later_none (is_part o c) (is_at c k n && (sounds n && not (sounds x))) (ended_on c k ns xs)
-      (none k below))) h
+      (stay ns xs grows.1 low.1 (λ k few below. later_none (is_part o c) (is_at c k n && (sounds n && not (sounds x))) (ended_on c k ns xs)
+      (none k few below))) h
 
 -- ---- one event more
 
@@ -258,7 +266,7 @@ module _ (laws : Laws) (o : Options) (table : Targets) (es : List MidiEvent) (e 
       ∙ ap (λ ps. is_member is_same_pair ps p) (laws.alone o table (port_at all y) (laws.timed y all order) k)
 
   pub stays : (ended : Ends) → AllByRecursion IsValidEvent es → TellsEnds o es e ended
-      → (port_on es e ≡ y → (p.part.channel < 16) × (slice_index ended.keys p.part.channel ≡ 0))
+      → (port_on es e ≡ y → slice_index ended.keys p.part.channel ≡ 0)
       → is_member is_same_pair (pairs_on o (is_part o) table all y (length es)) p ≡ true → is_held o table all p ≡ true
   stays ended valid tells quiet_there h =
       ap (λ k. is_member is_same_pair (pairs_on o (is_part o) table all y k) p) (longer es e)
@@ -276,15 +284,15 @@ module _ (laws : Laws) (o : Options) (table : Targets) (es : List MidiEvent) (e 
           let m : Music = music_at (of_port y all) (length es) in
           let next : music_at (of_port y all) (suc (length es)) ≡ step m e =
           laws.own y all (length es) e (laws.event es e [] y ∙ ap (λ b. cond b (e ∷ []) []) same) in
-          let own : AllByRecursion (λ n. n.key < 128) m.notes =
-          subst (λ (x : Music). AllByRecursion (λ n. n.key < 128) x.notes) (sym (music_all start (events_on y es)) ∙ sym before)
+          let own : AllByRecursion Low m.notes =
+          subst (λ (x : Music). AllByRecursion Low x.notes) (sym (music_all start (events_on y es)) ∙ sym before)
           (all_low laws.age quiet (events_on y es) (valid_on y es valid) tt) in
           ap sound next
           ∙ stay laws.more o table p y e.tick (begun_by m e.tick (doing e.what)) m.notes (step m e).notes (laws.age m e.tick (doing e.what)) own
-          (λ k below.
+          (λ k few below.
           ap (λ x. is_part o p.part.channel && ended_on p.part.channel k x.notes (step m e).notes) before
           ∙ ap (λ x. is_part o p.part.channel && ended_on p.part.channel k (music_on y es).notes x.notes) (sym next ∙ after_it)
           ∙ ap (λ z. is_part o p.part.channel && ended_on p.part.channel k (music_on z es).notes (music_on z all).notes) (sym at)
-          ∙ sym (tells p.part.channel k (quiet_there at).0 below)
-          ∙ ap (λ mask. has mask k) (quiet_there at).1 ∙ none_in k)
+          ∙ sym (tells p.part.channel k few below)
+          ∙ ap (λ mask. has mask k) (quiet_there at) ∙ none_in k)
           there

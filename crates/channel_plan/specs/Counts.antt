@@ -1,5 +1,5 @@
 -- The pairs that are counted, position by position, and where there were most.
-use Rattle.std.specs.Prelude.{◌≡◌, ℕ, suc, List, [], ◌∷◌, Bool, ◌||◌, if◌then◌else◌, Option, Some, None, true, ◌<◌, map, length, slice_index}
+use Rattle.std.specs.Prelude.{◌≡◌, ℕ, suc, List, [], ◌∷◌, Bool, ◌||◌, if◌then◌else◌, Option, Some, None, true, map, length, slice_index}
 use Rattle.mt_base.specs.declared.pair.Pair.{Pair as Packed}
 use Rattle.mt_base.specs.Midi.{MidiEvent}
 use Rattle.retune_model.specs.Options.{Options}
@@ -54,4 +54,4 @@ pub record IsEmpty (c : Counter) : Type 0 where
 
 -- a pair is held where no note of its channel ended
 abbrev pub IsKept : Ends → (Pair → Bool) → Pair → Type 0
-IsKept ended held p = p.part.channel < 16 → slice_index ended.keys p.part.channel ≡ 0 → held p ≡ true
+IsKept ended held p = slice_index ended.keys p.part.channel ≡ 0 → held p ≡ true

@@ -1,5 +1,5 @@
 -- Where notes don't rest, a pair stays at an event that ends no note of its channel.
-use Rattle.std.specs.Prelude.{◌≡◌, ◌<◌, ◌++◌, List, [], ◌∷◌, true, length, slice_index}
+use Rattle.std.specs.Prelude.{◌≡◌, ◌++◌, List, [], ◌∷◌, true, length, slice_index}
 use Rattle.std.specs.List.{AllByRecursion}
 use Rattle.std.specs.Set.{is_member}
 use Rattle.mt_base.specs.Midi.{MidiEvent}
@@ -16,6 +16,6 @@ use Rattle.lifetimes.specs.Told.{port_on, is_held, TellsEnds}
 abbrev pub StaysUnlessEnded : Type 0
 StaysUnlessEnded = (o : Options) (table : Targets) (es : List MidiEvent) (e : MidiEvent) (ended : Ends) (p : Pair)
     → AreInOrder 0 (es ++ e ∷ []) → AllByRecursion IsValidEvent es → o.tail ≡ 0 → TellsEnds o es e ended
-    → (port_on es e ≡ p.part.port → (p.part.channel < 16) × (slice_index ended.keys p.part.channel ≡ 0))
+    → (port_on es e ≡ p.part.port → slice_index ended.keys p.part.channel ≡ 0)
     → is_member is_same_pair (pairs_on o (is_part o) table (es ++ e ∷ []) p.part.port (length es)) p ≡ true
     → is_held o table (es ++ e ∷ []) p ≡ true

@@ -1,4 +1,4 @@
-ghost use Rattle.std.specs.Prelude.{◌≡◌, ◌≤◌, ◌<◌, ℕ, suc, List, [], length, map, filter, true, false, OnOk, ◌||◌};
+ghost use Rattle.std.specs.Prelude.{◌≡◌, ◌≤◌, ◌<◌, ℕ, suc, List, [], length, map, filter, true, false, IsTrue, OnOk, slice_index, ◌||◌};
 ghost use Rattle.mt_base.specs.Midi.{MidiEvent};
 ghost use Rattle.retune_model.specs.Pairs.{Pair as PairOf, is_before, is_earlier_part, is_same_pair, with_pair};
 ghost use Rattle.lifetimes.specs.Views.{part_of, pair_of};
@@ -68,6 +68,20 @@ fn place_of(pairs: &[Pair], pair: &Pair) -> usize
     place
 }
 
+/// Whether no note ended.
+pub(crate) fn ends_none(ended: &Ends) -> bool
+    ensures { IsTrue result → (c : ℕ) → slice_index ended.now.keys c ≡ 0 }
+{
+    let mut channel = 0;
+    while channel < 16 {
+        if ended.keys[channel] != 0 {
+            return false;
+        }
+        channel += 1;
+    }
+    true
+}
+
 /// Whether a pair still sounds or rests. Where notes don't rest, only those of a channel of which
 /// a note ended have to be asked for.
 pub(crate) fn stays<T: Aims>(parts: &Parts<T>, ended: &Ends, rests: bool, pair: &Pair) -> bool
@@ -96,6 +110,10 @@ pub(crate) fn keep<T: Aims>(pairs: &mut Vec<Pair>, parts: &Parts<T>, ended: &End
         ≡ filter (is_held (asked parts.now) (T.table (table_in parts.now)) es)
         (map pair_of pairs.old.items) }
 {
+    // Most events end no note. All pairs stay then, and none has to be looked at.
+    if !rests && ends_none(ended) {
+        return;
+    }
     let mut kept = 0;
     let mut next = 0;
     while next < pairs.len() {

@@ -12,7 +12,7 @@ ghost use Rattle.plan_laws.specs.Rows.{needed, leaves_by, keeps_before, keep};
 ghost use Rattle.channel_plan.specs.Seeing.{seen, all_seen, runs_in, IsPartOn, ArePartsOn, IsKeptOn, AreKeptOn};
 
 use crate::choice::Place;
-use crate::counter::stays;
+use crate::counter::{ends_none, stays};
 use key_pitch::Aims;
 use lifetimes::{Options, Parts, Route};
 use mt_base::Pair;
@@ -121,6 +121,10 @@ pub(crate) fn leave_all<T: Aims>(
         (all_seen places.old) }
     ensures runs { runs_in places.new ≡ runs_in places.old }
 {
+    // Most events end no note. All pairs stay then, and no place has to be looked at.
+    if !rests && ends_none(ended) {
+        return;
+    }
     let mut place = 0;
     while place < places.len() {
         leave_one(&mut places[place], parts, ended, rests, position);

@@ -1,11 +1,11 @@
-use Rattle.std.proofs.Common.{◌∙◌, ◌+◌, ◌<◌, Bool, List, length, sym, rules, arith}
+use Rattle.std.proofs.Common.{◌∙◌, ◌+◌, ◌<◌, Bool, List, map, not, length, false, sym, rules, arith}
 use Rattle.mt_base.specs.Midi.{MidiEvent}
 use Rattle.retune_model.specs.Pairs.{Pair}
 use Rattle.std.proofs.lemmas.List.{length-set, drop-set-lt}
 use Rattle.lifetimes.specs.Stands.{asked, table_in}
 use Rattle.lifetimes.specs.Told.{is_held}
 use Rattle.lifetimes.specs.Views.{pair_of}
-use Rattle.channel_plan.proofs.Keeping.{same_at, rest_next, there_at, one_kept, one_left}
+use Rattle.channel_plan.proofs.Keeping.{same_at, rest_next, there_at, one_kept, one_left, all_pass}
 use Rattle.channel_plan.proofs.counter.keep.Goals.{then-stays, else-stays}
 use Rattle.channel_plan.proofs.counter.keep.Goals as goal
 
@@ -38,3 +38,9 @@ loop-next-preserved g c =
             (sym (c.stays.ensures es stands bends (λ still. stay still (pair_of x) among)) ∙ b.if-stays.false);
       })
     ]
+
+-- no note ended, so no pair goes
+pub returns-then-ends_none : goal.returns-then-ends_none
+returns-then-ends_none g c es stands bends stay =
+    sym (all_pass (is_held (asked c.args.parts.now) (g.T.Aims.table (table_in c.args.parts.now)) es) (map pair_of c.args.pairs.now.items)
+    (λ p here. stay (search rules) p here (c.ends_none.ensures (search rules) p.part.channel)))

@@ -57,10 +57,10 @@ returns-else-resets-clause-left g c = λ es row number k e position stands of co
     let tail = c.options-rests.result.tail in
     let on : nat_lt 0 tail ≡ false → AreKeptOn c.args.ended.now holds then =
     λ calm d. if_some (seen_at then d).pair (IsKept c.args.ended.now holds)
-    (λ p h low none. still laws o table es k e part used.port comes of.parts sound c.args.ended.now stands.valid
+    (λ p h none. still laws o table es k e part used.port comes of.parts sound c.args.ended.now stands.valid
     (silent_by tail o.tail (ap (λ x. x.tail) c.options-rests.ensures) calm) tells p
     (c.row_laws.ensures.has o part table es used.port row k is.before d p is.places (kept_was o table (take k es) is.before d p h)).0
-    (λ same. (low, none))) in
+    (λ same. none)) in
     let new = (with_items used.places c.leave_all.new.places).items in
     let there : new ≡ c.leave_all.new.places = with_items_is used.places c.leave_all.new.places (c.leave_all.auto.places
     ∙ c.as_mut_slice-else-resets.ensures.len) in

@@ -23,9 +23,9 @@ returns-then-rests-clause-pairs g c es k e stands next old =
     } in
     let sound : IsSound o table (take (suc k) es) = record { bends = old.bends; in_order = stands.order; faultless = stands.faultless } in
     c.keep.ensures (take (suc k) es) stands old.bends
-    (λ calm p here low none. still laws o table es k e (channels_in o t.part) t.port next.comes old.parts sound c.args.change.now.ended stands.valid
+    (λ calm p here none. still laws o table es k e (channels_in o t.part) t.port next.comes old.parts sound c.args.change.now.ended stands.valid
     (silent_by c.options-rests.result.tail o.tail (ap (λ x. x.tail) c.options-rests.ensures) calm) next.tells.ended p
-    (ap (λ ps. is_member is_same_pair ps p) (sym old.counts.pairs) ∙ here) (λ same. (low, none)))
+    (ap (λ ps. is_member is_same_pair ps p) (sym old.counts.pairs) ∙ here) (λ same. none))
 
 pub returns-else-self-change-clause-pairs : goal.returns-else-self-change-clause-pairs
 returns-else-self-change-clause-pairs g c es k e stands next old =
