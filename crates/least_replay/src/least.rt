@@ -4,9 +4,10 @@ ghost use Rattle.least_replay.specs.Columns.{before_of};
 ghost use Rattle.least_replay.specs.Cover.{IsLeast};
 ghost use Rattle.least_replay.specs.CostView.{table_of, IsConfirmed};
 
-use crate::confirming::price_of;
+use crate::confirming::{confirm, price_of};
 use crate::costs::Costs;
 use crate::cover::Cover;
+use crate::greedy::put_cheaply;
 use crate::solver::solve;
 use mt_base::Memory;
 use std::alloc::Global;
@@ -43,9 +44,8 @@ fn append_signed(out: &mut Vec<i64>, xs: &[u32]) -> Result<(), Memory>
     Ok(())
 }
 
-/// A cover that costs least, with its certificate, which `confirm` takes. The only fault is want of
-/// memory.
-pub fn least_cover(alloc: Global, costs: &Costs) -> Result<Cover, Memory>
+/// A cover that costs least, with its certificate, for any costs.
+fn solved_cover(alloc: Global, costs: &Costs) -> Result<Cover, Memory>
     ensures confirmed { IfOk result (λ cover. IsConfirmed costs.now cover) }
     ensures least { IfOk result (λ cover. IsLeast (table_of costs.now) cover.price) }
 {
@@ -63,4 +63,18 @@ pub fn least_cover(alloc: Global, costs: &Costs) -> Result<Cover, Memory>
         u,
         v,
     })
+}
+
+/// A cover that costs least, with its certificate, which `confirm` takes. The only fault is want of
+/// memory.
+pub fn least_cover(alloc: Global, costs: &Costs) -> Result<Cover, Memory>
+    ensures confirmed { IfOk result (λ cover. IsConfirmed costs.now cover) }
+    ensures least { IfOk result (λ cover. IsLeast (table_of costs.now) cover.price) }
+{
+    if let Some(cover) = put_cheaply(alloc, costs)? {
+        if confirm(costs, &cover) {
+            return Ok(cover);
+        }
+    }
+    solved_cover(alloc, costs)
 }

@@ -72,6 +72,17 @@ fn few_runs(rt: HostRuntime) {
     assert!(rt; dear.is_none());
 }
 
+/// Each run costs the same behind another, and more at a start.
+#[test]
+fn one_cost_behind_runs(rt: HostRuntime) {
+    let alloc = rt.alloc();
+    let after = [NO, NO, NO, NO, NO, NO, NO, NO, 2, NO, NO, NO, 2, 2, NO, NO];
+    let kept = [None, None, Some(0), Some(1)];
+    let some = costs(alloc, 3, &[5; 4], &after, &kept).expect(&rt, "memory");
+    let least = [None, None, Some(0), Some(1)];
+    assert!(rt; covers(alloc, some, 14, &least).expect(&rt, "memory"));
+}
+
 #[test]
 fn refuses_a_dearer_cover(rt: HostRuntime) {
     let alloc = rt.alloc();
