@@ -1,12 +1,11 @@
 -- The notes of a port after an event: those from before, of which some ended, and the one that it begins.
-use Rattle.std.proofs.Common.{◌≡◌, ◌≤◌, ◌<◌, ◌+◌, ℕ, zero, suc, List, [], ◌∷◌, ◌++◌, Bool, true, false, cond, not, ◌&&◌, ◌||◌, Option, Some, None, refl, ap, sym, ◌∙◌, subst, arith}
+use Rattle.std.proofs.Common.{◌≡◌, ◌≤◌, ◌<◌, ◌+◌, ℕ, suc, List, [], ◌∷◌, ◌++◌, Bool, true, false, cond, not, ◌&&◌, ◌||◌, Option, Some, None, refl, ap, sym, ◌∙◌, arith}
 use Rattle.std.specs.Prelude.{map, filter, nat_eq, is_some}
 use Rattle.std.specs.List.{AllByRecursion}
 use Rattle.std.proofs.lemmas.Bool.{eq-eqb}
 use Rattle.midi_model.specs.Notes.{Note, Fades, sounds, sounding_on, is_at}
 use Rattle.midi_model.specs.MusicLaws.{AllFade, Ages, EndsBy, Grows}
 use Rattle.receiver.specs.Sounding.{ended_on}
-use Rattle.audit_report.specs.declared.played.Played.{Played}
 use Rattle.audit_report.specs.Audit.{marked}
 use Rattle.audit_report.specs.Played.{played_on}
 

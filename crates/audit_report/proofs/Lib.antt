@@ -5,3 +5,4 @@ pub mod Next
 pub mod Dealing
 pub mod Said
 pub mod Joined
+pub mod Told

@@ -1,10 +1,10 @@
 -- Notes that end, mark by mark.
-use Rattle.std.proofs.Common.{◌≡◌, ◌≤◌, ◌<◌, ◌+◌, ◌-◌, ℕ, zero, suc, List, [], ◌∷◌, Bool, true, false, cond, not, ◌&&◌, ◌||◌, Option, Some, None, length, get_or, set, refl, ap, sym, ◌∙◌, arith, inl, inr}
+use Rattle.std.proofs.Common.{◌≡◌, ◌<◌, ◌+◌, ℕ, zero, suc, List, [], ◌∷◌, Bool, true, false, cond, not, ◌&&◌, ◌||◌, Some, length, set, refl, ap, sym, ◌∙◌, arith, inl, inr}
 use Rattle.std.specs.Prelude.{map, nat_eq, nat_lt, is_some, slice_index}
 use Rattle.std.proofs.lemmas.Bool.{cases_lt, cases_eq, lt-ltb, le-ltb, eqb-true, eq-eqb}
 use Rattle.receiver.specs.Notes.{has}
 use Rattle.audit_report.specs.declared.played.Played.{Played}
-use Rattle.audit_report.specs.Audit.{is_at, is_key, is_key_if, keys_below, channels_below, marked, note_at}
+use Rattle.audit_report.specs.Audit.{is_at, is_key, keys_below, channels_below, marked, note_at}
 
 -- ---- truth values
 
@@ -123,28 +123,65 @@ one_marked z f t (p ∷ ps) (suc j) low here others =
 
 -- ---- the masks
 
-pub of_mask : (told : ℕ → Bool) (channel key : ℕ) → told key ≡ true → (c k : ℕ) → is_key channel key c k ≡ is_key_if told channel key c k
-of_mask told channel key is c k = ap (λ x. nat_eq c channel && x) (sym (and_true (nat_eq k key)) ∙ ap (λ b. nat_eq k key && b) (sym is))
+-- the keys of a mask but for those of another
+abbrev pub keys_but : (ℕ → Bool) → (ℕ → Bool) → ℕ → ℕ → ℕ → Bool
+keys_but told rest channel c k = nat_eq c channel && (nat_lt k 128 && (told k && not (rest k)))
+
+pub no_keys_yet : (told : ℕ → Bool) (channel c k : ℕ) → keys_but told told channel c k ≡ false
+no_keys_yet told channel c k = ap (λ b. nat_eq c channel && (nat_lt k 128 && b)) (and_not (told k))
+    ∙ (ap (λ b. nat_eq c channel && b) (and_false (nat_lt k 128)) ∙ and_false (nat_eq c channel))
+  where
+    and_not : (b : Bool) → (b && not b) ≡ false
+    and_not true = refl
+    and_not false = refl
+
+pub all_but_none : (told rest : ℕ → Bool) (channel : ℕ) → ((k : ℕ) → rest k ≡ false) → (c k : ℕ)
+    → keys_but told rest channel c k ≡ keys_below told channel 128 c k
+all_but_none told rest channel none c k = ap (λ b. nat_eq c channel && (nat_lt k 128 && (told k && not b))) (none k)
+    ∙ ap (λ b. nat_eq c channel && (nat_lt k 128 && b)) (and_true (told k))
   where
     and_true : (b : Bool) → (b && true) ≡ b
     and_true true = refl
     and_true false = refl
 
-pub of_no_mask : (told : ℕ → Bool) (channel key : ℕ) → told key ≡ false → (c k : ℕ) → is_key_if told channel key c k ≡ false
-of_no_mask told channel key is c k = ap (λ b. nat_eq c channel && (nat_eq k key && b)) is
-    ∙ (ap (λ x. nat_eq c channel && x) (and_false (nat_eq k key)) ∙ and_false (nat_eq c channel))
+-- one key less
+pub fewer_keys : (rest less : ℕ → Bool) (key k : ℕ) → less k ≡ cond (nat_eq k key) false (rest k) → less k ≡ true → rest k ≡ true
+fewer_keys rest less key k is h = pick (nat_eq k key) (sym is ∙ h)
+  where
+    pick : (b : Bool) → cond b false (rest k) ≡ true → rest k ≡ true
+    pick true g = absurd cc
+    pick false g = g
 
-pub no_keys_yet : (told : ℕ → Bool) (channel c k : ℕ) → keys_below told channel 0 c k ≡ false
-no_keys_yet told channel c k = ap (λ b. nat_eq c channel && (b && told k)) (le-ltb k 0 (omega arith)) ∙ and_false (nat_eq c channel)
+one_less : (told rest less : ℕ → Bool) (key k : ℕ) → key < 128 → told key ≡ true
+    → (k < 128 → less k ≡ cond (nat_eq k key) false (rest k))
+    → ((nat_lt k 128 && (told k && not (rest k))) || nat_eq k key) ≡ (nat_lt k 128 && (told k && not (less k)))
+one_less told rest less key k low is cleared = elim (cases_lt k 128) [
+  | inl l ↦ elim (cases_eq k key) [
+    | inl e ↦
+        ap (λ b. (nat_lt k 128 && (told k && not (rest k))) || b) (eq-eqb k key e)
+        ∙ (or_true (nat_lt k 128 && (told k && not (rest k)))
+        ∙ sym (ap (λ b. b && (told k && not (less k))) (lt-ltb k 128 l) ∙ (ap (λ b. b && not (less k)) (ap told e ∙ is)
+        ∙ ap not (cleared l ∙ ap (λ b. cond b false (rest k)) (eq-eqb k key e)))))
+    | inr d ↦
+        ap (λ b. (nat_lt k 128 && (told k && not (rest k))) || b) (other k key d)
+        ∙ (or_false (nat_lt k 128 && (told k && not (rest k)))
+        ∙ sym (ap (λ b. nat_lt k 128 && (told k && not b)) (cleared l ∙ ap (λ b. cond b false (rest k)) (other k key d))))
+  ]
+  | inr g ↦
+      ap (λ b. (b && (told k && not (rest k))) || nat_eq k key) (le-ltb k 128 g) ∙ (other k key (λ e. omega (arith, low, g, e))
+      ∙ sym (ap (λ b. b && (told k && not (less k))) (le-ltb k 128 g)))
+]
+  where
+    or_true : (b : Bool) → (b || true) ≡ true
+    or_true true = refl
+    or_true false = refl
 
-pub no_keys_told : (told : ℕ → Bool) (channel end : ℕ) → ((k : ℕ) → told k ≡ false) → (c k : ℕ) → keys_below told channel end c k ≡ false
-no_keys_told told channel end none c k = ap (λ b. nat_eq c channel && (nat_lt k end && b)) (none k)
-    ∙ (ap (λ x. nat_eq c channel && x) (and_false (nat_lt k end)) ∙ and_false (nat_eq c channel))
-
-pub next_key : (told : ℕ → Bool) (channel key c k : ℕ)
-    → (keys_below told channel key c k || is_key_if told channel key c k) ≡ keys_below told channel (key + 1) c k
-next_key told channel key c k = both_parts (nat_eq c channel) (nat_lt k key && told k) (nat_eq k key && told key)
-    ∙ ap (λ x. nat_eq c channel && x) (or_next told k key)
+pub next_key : (told rest less : ℕ → Bool) (channel key : ℕ) → key < 128 → told key ≡ true
+    → ((k : ℕ) → k < 128 → less k ≡ cond (nat_eq k key) false (rest k)) → (c k : ℕ)
+    → (keys_but told rest channel c k || is_key channel key c k) ≡ keys_but told less channel c k
+next_key told rest less channel key low is cleared c k =
+    both_parts (nat_eq c channel) (nat_lt k 128 && (told k && not (rest k))) (nat_eq k key)
+    ∙ ap (λ x. nat_eq c channel && x) (one_less told rest less key k low is (cleared k))
 
 pub no_channels_yet : (keys : List ℕ) (c k : ℕ) → channels_below keys 0 c k ≡ false
 no_channels_yet keys c k = ap (λ b. b && (nat_lt k 128 && has (slice_index keys c) k)) (le-ltb c 0 (omega arith))

@@ -1,17 +1,15 @@
 -- What is said of notes holds of them.
-use Rattle.std.proofs.Common.{◌≡◌, ◌<◌, ℕ, List, [], ◌∷◌, Bool, true, false, cond, Option, Some, None, refl, ap, sym, ◌∙◌}
+use Rattle.std.proofs.Common.{◌≡◌, ℕ, [], ◌∷◌, Bool, true, false, cond, Option, Some, None, refl, ap, ◌∙◌}
 use Rattle.std.specs.Prelude.{nat_lt, is_some, option_map}
 use Rattle.std.proofs.lemmas.Bool.{lt-ltb, ltb-true}
 use Rattle.retune_model.specs.Table.{Bounds, Scaling, IsTable, AreFewTerms}
 use Rattle.retune_model.specs.Faults.{Targets}
-use Rattle.key_report.specs.declared.keys.KeyError.{KeyError}
 use Rattle.key_report.specs.declared.target.Target.{Target}
 use Rattle.key_report.specs.KeyLaws.{HasError, NoteErrorHolds}
 use Rattle.key_report.specs.Keys.{error_if, error_of}
 use Rattle.key_report.specs.Targets.{IsDevice, target_if, target_of}
 use Rattle.audit_report.specs.declared.played.Played.{Played}
 use Rattle.audit_report.specs.Laws.{HasNoteError, NoteErrorsHold, NotesWithTargetsAreTold}
-use Rattle.audit_report.specs.Texts.{note_error}
 
 holds : NoteErrorHolds → (s : Scaling) (table : Targets) (range : Option ℕ) (p : Played) → IsTable s table → AreFewTerms s → IsDevice range
     → HasNoteError s table range p

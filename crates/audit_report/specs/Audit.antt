@@ -1,5 +1,5 @@
 -- What an audit keeps of a source's notes, by the events so far.
-use Rattle.std.specs.Prelude.{◌≡◌, ◌<◌, ℕ, zero, suc, ◌+◌, ◌*◌, List, [], ◌∷◌, Bool, ◌&&◌, not, nat_eq, nat_lt, slice_index, if◌then◌else◌, Option, Some, None, is_some, filter, map, length, get_or}
+use Rattle.std.specs.Prelude.{◌≡◌, ◌<◌, ℕ, suc, ◌+◌, ◌*◌, List, [], ◌∷◌, Bool, ◌&&◌, not, nat_eq, nat_lt, slice_index, if◌then◌else◌, Some, None, is_some, filter, map, length, get_or}
 use Rattle.mt_base.specs.declared.event.Msg.TheVariants.{NoteOn}
 use Rattle.mt_base.specs.Midi.{MidiWhat, Says, MidiEvent}
 use Rattle.retune_model.specs.Options.{Options}
@@ -24,12 +24,9 @@ is_at z on p = nat_eq p.part.port z && (on p.part.channel p.key && not (is_some 
 abbrev pub marked : ℕ → (ℕ → ℕ → Bool) → ℕ → Played → Played
 marked z on t p = if is_at z on p then record p { ended = Some t } else p
 
--- one key of a channel; the same if it is told; the keys below one that are told; and those of the channels below one
+-- one key of a channel; the keys below one that are told; and those of the channels below one
 abbrev pub is_key : ℕ → ℕ → ℕ → ℕ → Bool
 is_key channel key c k = nat_eq c channel && nat_eq k key
-
-abbrev pub is_key_if : (ℕ → Bool) → ℕ → ℕ → ℕ → ℕ → Bool
-is_key_if told channel key c k = nat_eq c channel && (nat_eq k key && told key)
 
 abbrev pub keys_below : (ℕ → Bool) → ℕ → ℕ → ℕ → ℕ → Bool
 keys_below told channel end c k = nat_eq c channel && (nat_lt k end && told k)

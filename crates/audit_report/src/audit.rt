@@ -5,7 +5,7 @@ ghost use Rattle.retune_model.specs.Faults.{Targets};
 ghost use Rattle.receiver.specs.Notes.{has};
 ghost use Rattle.lifetimes.specs.Told.{TellsChange};
 ghost use Rattle.audit_report.specs.Played.{played_notes};
-ghost use Rattle.audit_report.specs.Audit.{IsAudit, IsIndexed, IsLow, place_of, is_at, is_key, is_key_if, keys_below, channels_below, marked, velocity_in};
+ghost use Rattle.audit_report.specs.Audit.{IsAudit, IsIndexed, IsLow, place_of, is_at, is_key, keys_below, channels_below, marked, velocity_in};
 
 use crate::played::Played;
 use lifetimes::Change;
@@ -43,14 +43,6 @@ fn velocity_in(what: &What<'_>) -> u8
         What::Message(Msg::NoteOn { velocity, .. }) => *velocity,
         _ => 0,
     }
-}
-
-/// Whether a mask has a key.
-fn has_key(keys: u128, key: u8) -> bool
-    requires { key < 128 }
-    ensures { result ≡ has keys key }
-{
-    keys >> key & 1 == 1
 }
 
 /// Whether a note sounds on a key of a part.
@@ -112,21 +104,6 @@ impl Audit {
         }
     }
 
-    /// The same, where a mask has the key.
-    fn end_if(&mut self, port: u8, channel: u8, keys: u128, key: u8, tick: u32)
-        requires channel { channel < 16 }
-        requires key { key < 128 }
-        ensures indexed { IsIndexed self.old.last.items self.old.notes.items
-            → IsIndexed self.new.last.items self.new.notes.items }
-        ensures last { self.new.last ≡ self.old.last }
-        ensures notes { IsIndexed self.old.last.items self.old.notes.items → self.new.notes.items
-            ≡ map (marked port (is_key_if (has keys) channel key) tick) self.old.notes.items }
-    {
-        if has_key(keys, key) {
-            self.end_at(port, channel, key, tick);
-        }
-    }
-
     /// The notes on keys of a part end, those that bits of a mask stand for: of most parts none.
     fn end_keys(&mut self, port: u8, channel: u8, keys: u128, tick: u32)
         requires channel { channel < 16 }
@@ -136,11 +113,11 @@ impl Audit {
         ensures notes { IsIndexed self.old.last.items self.old.notes.items → self.new.notes.items
             ≡ map (marked port (keys_below (has keys) channel 128) tick) self.old.notes.items }
     {
-        if keys == 0 {
-            return;
-        }
-        for key in 0..128u8 {
-            self.end_if(port, channel, keys, key, tick);
+        let mut rest = keys;
+        while rest != 0 {
+            let key = rest.trailing_zeros();
+            self.end_at(port, channel, key as u8, tick);
+            rest &= !(1u128 << key);
         }
     }
 

@@ -1,10 +1,11 @@
 //! Laws of notes, and worked examples. The functions do nothing: their contracts are what is stated.
 
 ghost use Rattle.std.specs.Prelude.{◌≡◌, true, false, codes, pos, None, Some};
-ghost use Rattle.audit_report.specs.Laws.{NoteErrorsHold, NotesWithTargetsAreTold};
+ghost use Rattle.audit_report.specs.Laws.{NoteErrorsHold, NotesWithTargetsAreTold, EachNoteIsTold};
 ghost use Rattle.audit_report.specs.Texts.{note_line};
 
 use key_report::key_laws;
+use midi_model::music_laws;
 
 /// The error of each note holds of the pitch of its key in the scale in force when it begins, as inequalities of
 /// whole powers, within the bound of the device. A note whose key has a target has one.
@@ -13,6 +14,14 @@ pub fn audit_laws()
     ensures told { NotesWithTargetsAreTold }
 {
     key_laws();
+}
+
+/// Each retuned note of a source without a fault has an error, and so a line: its key had a target when
+/// it began, since else that event had a fault.
+pub fn each_note_is_told()
+    ensures { EachNoteIsTold }
+{
+    music_laws();
 }
 
 /// Lines: of a note that the pedal held, of one that never ends, and where ports are named.

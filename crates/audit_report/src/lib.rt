@@ -11,6 +11,6 @@ mod tests;
 mod text;
 
 pub use audit::Audit;
-pub use laws::{audit_examples, audit_laws};
+pub use laws::{audit_examples, audit_laws, each_note_is_told};
 pub use lines::push_audit;
 pub use played::Played;

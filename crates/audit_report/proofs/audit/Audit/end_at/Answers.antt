@@ -1,4 +1,4 @@
-use Rattle.std.proofs.Common.{◌≡◌, ◌<◌, ◌≤◌, ◌-◌, List, length, set, Some, sym, ap, ◌∙◌, subst, arith}
+use Rattle.std.proofs.Common.{◌≡◌, ◌<◌, ◌-◌, List, length, set, Some, sym, ap, ◌∙◌, subst, arith}
 use Rattle.audit_report.specs.declared.played.Played.{Played}
 use Rattle.audit_report.specs.Audit.{IsIndexed, is_at, is_key, note_at}
 use Rattle.audit_report.proofs.Indexed.{ends_there, indexed_marked, none_there, read_note, read_number, silent_there}

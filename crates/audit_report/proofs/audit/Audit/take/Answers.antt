@@ -1,10 +1,6 @@
-use Rattle.std.proofs.Common.{◌≡◌, ◌++◌, ◌∷◌, [], List, ℕ, Option, Some, None, Result, Ok, Err, map, set, sym, ap, ◌∙◌, subst}
+use Rattle.std.proofs.Common.{◌≡◌, ◌++◌, ◌∷◌, [], List, ℕ, None, Result, Ok, Err, map, set, sym, ap, ◌∙◌, subst}
 use Rattle.std.specs.Prelude.{OnOk}
 use Rattle.mt_base.specs.Midi.{MidiEvent, view}
-use Rattle.retune_model.specs.Options.{Options}
-use Rattle.lifetimes.specs.declared.change.Begun.{Begun}
-use Rattle.lifetimes.specs.Told.{port_on}
-use Rattle.audit_report.specs.declared.audit.Audit.{Audit}
 use Rattle.audit_report.specs.declared.played.Played.{Played}
 use Rattle.audit_report.specs.Audit.{AreHeard, IsAudit, channels_below, marked, place_of}
 use Rattle.audit_report.proofs.Next.{heard_none, heard_some}
