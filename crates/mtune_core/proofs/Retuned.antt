@@ -16,7 +16,7 @@ use Rattle.lifetimes.specs.Told.{told_fault, IsCaused}
 use Rattle.channel_plan.specs.declared.plan.Plan.{Plan}
 use Rattle.key_report.specs.KeyLaws.{KeyErrorsHold}
 use Rattle.key_report.specs.Targets.{IsDevice}
-use Rattle.audit_report.specs.Laws.{NoteErrorsHold}
+use Rattle.audit_report.specs.Laws.{NoteErrorsHold, EachNoteIsTold}
 use Rattle.audit_report.specs.Played.{played_notes}
 use Rattle.mtune_core.specs.declared.outcome.Fault.{Fault}
 use Rattle.mtune_core.specs.declared.outcome.Fault.TheVariants.{Source, TooManyParts, TooManyChannels, Memory}
@@ -74,6 +74,7 @@ pub record MadeLaws : Type 0 where
   pub mpe : ZonedUsesFewest
   pub errors : KeyErrorsHold
   pub notes : NoteErrorsHold
+  pub lines : EachNoteIsTold
 
 -- it is the file that the route makes, with the same plan
 abbrev IsSo : Route → (o : Options) (allowed : ℕ → Bool) (table : Targets) (source file : MidiFile) → Option Plan → Type 0
@@ -136,6 +137,7 @@ made_is_retuned laws (Ok made) c table input source range one spelled short byte
       exact_bytes = m.output;
       errors = laws.errors scaling table (bend_range o) 0 (λ key. uses_key o key (merged source)) is_table.is_table few device;
       note_errors = laws.notes scaling table (bend_range o) (played_notes o (merged source)) is_table.is_table few device;
+      note_lines = laws.lines o table (merged source) playable.valid m.taken.faultless;
       is_report = m.report ∙ ap (λ p. report_of c.audit o table p (merged source)) (sym made.1);
     })
 made_is_retuned laws (Err fault) c table input source range one spelled short bytes playable m = tt

@@ -17,7 +17,7 @@ use Rattle.channel_plan.specs.declared.plan.Plan.{Plan}
 use Rattle.channel_plan.specs.declared.fault.PlanFault.TheVariants as plans
 use Rattle.command_line.specs.Words.{Command}
 use Rattle.key_report.specs.KeyLaws.{HasError}
-use Rattle.audit_report.specs.Laws.{HasNoteError}
+use Rattle.audit_report.specs.Laws.{HasNoteError, HasLine}
 use Rattle.audit_report.specs.Played.{played_notes}
 use Rattle.mtune_core.specs.declared.outcome.Fault.{Fault}
 use Rattle.mtune_core.specs.declared.outcome.Fault.TheVariants.{Smf, Source, TooManyParts, TooManyChannels, Memory}
@@ -80,8 +80,9 @@ plan_of ByBend o allowed table source out h = Some h.plan
 plan_of ByMpe o allowed table source out h = Some h.plan
 
 -- What is made for a command of an input that has no reason to be refused: bytes that spell a file that plays the same, the file that the
--- route makes, and the report, each error of which holds of the scale. An audit tells the channels of the file's plan. No event of the
--- source has a fault of the table of source faults, and on bend and MPE it needs no more channels than it may have.
+-- route makes, and the report, each error of which holds of the scale. An audit has a line for each retuned note and tells the channels of the
+-- file's plan. No event of the source has a fault of the table of source faults, and on bend and MPE it needs no more channels than it may
+-- have.
 pub record IsRetuned (scaling : Scaling) (c : Command) (table : Targets) (input output report : List ℕ) : Type 0 where
   pub source : MidiFile
   pub out : MidiFile
@@ -93,5 +94,6 @@ pub record IsRetuned (scaling : Scaling) (c : Command) (table : Targets) (input 
   pub exact_bytes : output ≡ file_bytes out
   pub errors : All (HasError scaling (bend_range c.options) 0) (errors_of c.options table (merged source))
   pub note_errors : AllByRecursion (HasNoteError scaling table (bend_range c.options)) (played_notes c.options (merged source))
+  pub note_lines : AllByRecursion (HasLine table (bend_range c.options)) (played_notes c.options (merged source))
   pub is_report : report ≡ report_of c.audit c.options table
       (plan_of c.options.route c.options (allowed_by c) table source out made) (merged source)

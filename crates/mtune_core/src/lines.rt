@@ -28,15 +28,14 @@ pub fn one(text: &str, number: u32) -> Line
     line
 }
 
-/// A line of a text and a number, and again.
-fn two(text: &str, number: u32, then: &str, other: u32) -> Line
-    requires text { length text.now ≤ 40 }
-    requires more { length then.now ≤ 10 }
-    ensures { result.bytes ≡ text.now ++ decimal number ++ then.now ++ decimal other ++ codes "\n" }
+/// A line of a text and a number, and of a kind.
+fn of_kind(text: &str, number: u32, kind: u8) -> Line
+    requires { length text.now ≤ 40 }
+    ensures { result.bytes ≡ text.now ++ decimal number ++ codes " kind " ++ decimal kind ++ codes "\n" }
 {
     let mut line = Line::new();
     push(&mut line, text, number);
-    push(&mut line, then, other);
+    push(&mut line, " kind ", u32::from(kind));
     line.push_str("\n");
     line
 }
@@ -136,18 +135,8 @@ pub fn line_of(fault: &Fault) -> Line
         Fault::Usage { kind } => one("mtune: usage ", u32::from(*kind)),
         Fault::Load { which } => about("mtune: cannot load ", *which),
         Fault::TooLong { which } => about("mtune: too long ", *which),
-        Fault::Scl { line, kind } => two(
-            "mtune: scale line ",
-            *line,
-            " kind ",
-            u32::from(kind.number()),
-        ),
-        Fault::Kbm { line, kind } => two(
-            "mtune: map line ",
-            *line,
-            " kind ",
-            u32::from(kind.number()),
-        ),
+        Fault::Scl { line, kind } => of_kind("mtune: scale line ", *line, kind.number()),
+        Fault::Kbm { line, kind } => of_kind("mtune: map line ", *line, kind.number()),
         Fault::ReferenceUnmapped { key } => around(
             "mtune: reference key ",
             u32::from(*key),
@@ -158,12 +147,7 @@ pub fn line_of(fault: &Fault) -> Line
             u32::from(*key),
             " has more than 1700 ratio terms\n",
         ),
-        Fault::Smf { offset, kind } => two(
-            "mtune: input byte ",
-            *offset,
-            " kind ",
-            u32::from(kind.number()),
-        ),
+        Fault::Smf { offset, kind } => of_kind("mtune: input byte ", *offset, kind.number()),
         Fault::Source(fault) => about_event(fault),
         Fault::TooManyParts { port, parts } => too_many_parts_line(*port, *parts),
         Fault::TooManyChannels(fault) => too_many_line(fault),

@@ -15,7 +15,7 @@ use crate::outcome::Fault;
 use crate::plain::make_plainly;
 use crate::planned::make_by_plan;
 use crate::reading::read_input;
-use audit_report::audit_laws;
+use audit_report::{audit_laws, each_note_is_told};
 use command_line::Command;
 use key_pitch::KeyTable;
 use key_report::key_laws;
@@ -62,6 +62,7 @@ pub fn retuned(
 {
     key_laws();
     audit_laws();
+    each_note_is_told();
     output_is_spelt();
     output_plays_the_same();
     fewest_are_used();

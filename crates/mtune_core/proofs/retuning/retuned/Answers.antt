@@ -17,6 +17,7 @@ returns-clause-made c = made_is_retuned (record {
   mpe = c.fewest_are_used.ensures.mpe;
   errors = c.key_laws.ensures.hold;
   notes = c.audit_laws.ensures.hold;
+  lines = c.each_note_is_told.ensures;
 })
     c.make.result (view_command c.args.command.now) (by_onset c.args.table.now) c.args.input.now c.in_ok-smf.smf c.requires.range (λ key onset. refl)
     c.in_ok-smf.ensures.found c.requires.short (below c.args.input.now c.type_inv.input)
