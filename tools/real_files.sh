@@ -267,6 +267,55 @@ retune e12.scl out.mid "$(bytes ff).mid"
 ends 6
 has
 
+# ---- the examples
+
+# A piece in a scale, both of the examples; of the report all lines but those of keys are compared.
+example() {
+    scale=$1 piece=$2
+    shift 2
+    run --scale "$top/examples/$scale" --a440 "$@" --out out.mid "$top/examples/$piece"
+    grep -v '^key ' "$room/said" >"$room/rest"
+    mv "$room/rest" "$room/said"
+}
+
+begin an example on the bend route
+example meantone.scl piece.mid
+ends 0 'route bend' 'notes 19' 'channels 3' 'need 3 tick 0 position 16' 'pair 1 -23' 'pair 2 -93' 'pair 3 0' 'error -0.053 to 0.064'
+has out.mid
+example just_d.scl canon.mid --route bend
+ends 0 'route bend' 'notes 471' 'channels 7' 'need 7 tick 11520 position 258' 'pair 1 -13' 'pair 2 -13' 'pair 3 -107' 'pair 4 -93' \
+    'pair 4 0' 'pair 4 13' 'pair 5 0' 'error -0.051 to 0.064'
+
+begin an example on the mpe route
+example meantone_flats.scl prelude.mid --route mpe
+ends 0 'route mpe' 'notes 549' 'channels 5' 'zone lower part 1 need 3 tick 480 position 15' 'pair 1 -6' 'pair 1 12' 'pair 1 18' \
+    'zone upper part 2 need 2 tick 120 position 12' 'pair 2 -6' 'pair 2 18' 'error -0.283 to 0.283'
+has out.mid
+
+begin examples of too many parts for the mpe route
+example meantone.scl piece.mid --route mpe
+ends 2 'mtune: 3 parts on mpe'
+example just_d.scl canon.mid --route mpe
+ends 2 'mtune: 5 parts on mpe'
+has
+
+begin an example on the dump route, by a scale and by the same one through a mapping
+example just_d.scl canon.mid --route dump
+ends 0 'route dump' 'notes 471' 'channels 5' 'error -0.003 to 0.003'
+cp out.mid "$room/canon.mid"
+run --scale "$top/examples/just.scl" --map "$top/examples/on_d.kbm" --route dump --out out.mid "$top/examples/canon.mid"
+holds out.mid "$room/canon.mid"
+
+begin an example on the live route
+example just_d.scl canon.mid --route live
+ends 0 'route live' 'notes 471' 'channels 5' 'error -0.003 to 0.003'
+has out.mid
+
+begin an example with a key that the mapping leaves out
+run --scale "$top/examples/e12.scl" --map "$top/examples/white.kbm" --route dump --out out.mid "$top/examples/piece.mid"
+ends 2 'mtune: input event 12 tick 0 track 2 kind 1'
+has
+
 # ---- what can't be read, or isn't what it should be
 
 begin a missing input
