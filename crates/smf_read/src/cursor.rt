@@ -35,7 +35,7 @@ pub fn fault_in(bytes: &[u8]) -> Option<Stop>
         {
             running = short.status;
             tick += short.delta;
-            rest = &rest[short.len as usize..];
+            rest = &rest[short.len..];
             continue;
         }
         match event(running, tick, rest) {
@@ -130,7 +130,7 @@ impl<'a> Cursor<'a> {
         {
             self.running = short.status;
             self.tick += short.delta;
-            self.rest = &self.rest[short.len as usize..];
+            self.rest = &self.rest[short.len..];
             return Some(Event {
                 tick: self.tick,
                 track: self.track,

@@ -2,8 +2,9 @@ ghost use Rattle.std.specs.Prelude.{◌≡◌, ◌<◌, ◌≤◌, ◌^◌, ◌+
 ghost use Rattle.mt_base.specs.Midi.{view_what};
 ghost use Rattle.mt_base.specs.Valid.{IsValidMsg, IsValidWhat};
 ghost use Rattle.midi_model.specs.Reading.{Gives, Gives3, Within, Within3, room, IsLong, IsRunning};
-ghost use Rattle.midi_model.specs.Reading.{quantity_from, quantity_at, data_at, long_msg, short_msg};
+ghost use Rattle.midi_model.specs.Reading.{quantity_from, quantity_at, data_at, short_msg};
 ghost use Rattle.midi_model.specs.Reading.{bytes_at, content_at, says_at, meta_alone_at, body_at, event_at};
+ghost use Rattle.smf_read.specs.Short.{IsSingle, msg_of};
 ghost use Rattle.smf_read.specs.Views.{timed};
 
 use crate::stop::stop;
@@ -87,13 +88,14 @@ fn data(bytes: &[u8]) -> Result<(u8, &[u8]), Stop>
     }
 }
 
-/// The message of a status byte with two data bytes.
+/// The message of a status byte and its data bytes. Where it has only one, the second says nothing.
 #[inline(always)]
-pub fn long_msg(status: u8, d: u8, e: u8) -> Msg
-    requires status { IsLong status }
+pub fn msg_of(status: u8, d: u8, e: u8) -> Msg
+    requires low { 128 ≤ status }
+    requires high { status < 240 }
     requires d { d < 128 }
     requires e { e < 128 }
-    ensures is { result ≡ long_msg status d e }
+    ensures is { result ≡ msg_of status d e }
     ensures valid { IsValidMsg result }
 {
     if status < 0x90 {
@@ -120,6 +122,8 @@ pub fn long_msg(status: u8, d: u8, e: u8) -> Msg
             number: d,
             value: e,
         }
+    } else if status < 0xe0 {
+        short_msg(status, d)
     } else {
         Msg::Bend {
             channel: channel(status, 0xe0),
@@ -129,6 +133,7 @@ pub fn long_msg(status: u8, d: u8, e: u8) -> Msg
 }
 
 /// The message of a status with one data byte.
+#[inline(always)]
 fn short_msg(status: u8, d: u8) -> Msg
     requires low { 192 ≤ status }
     requires high { status < 224 }
@@ -157,6 +162,14 @@ pub fn is_long(status: u8) -> bool
     (status >= 0x80 && status < 0xc0) || (status >= 0xe0 && status < 0xf0)
 }
 
+/// Whether a byte is the status byte of a message with one data byte.
+#[inline(always)]
+pub fn is_single(status: u8) -> bool
+    ensures { IsTrue result ↔ IsSingle status }
+{
+    status >= 0xc0 && status < 0xe0
+}
+
 /// The data bytes of a message whose status byte is known, as an event, and the running status after it.
 #[tactic(auto, unfolding(midi_model::specs::Reading::message_at))]
 fn message(status: u8, bytes: &[u8]) -> Result<(What<'_>, u8, &[u8]), Stop>
@@ -168,11 +181,12 @@ fn message(status: u8, bytes: &[u8]) -> Result<(What<'_>, u8, &[u8]), Stop>
     ensures running { IfOk result (λ x. IsRunning x.1) }
 {
     let (d, rest) = data(bytes)?;
-    if status >= 0xc0 && status < 0xe0 {
-        return Ok((What::Message(short_msg(status, d)), status, rest));
-    }
-    let (e, rest) = data(rest)?;
-    Ok((What::Message(long_msg(status, d, e)), status, rest))
+    let (e, rest) = if is_single(status) {
+        (0, rest)
+    } else {
+        data(rest)?
+    };
+    Ok((What::Message(msg_of(status, d, e)), status, rest))
 }
 
 /// So many bytes, and those behind them.
@@ -255,6 +269,7 @@ fn body(running: u8, bytes: &[u8]) -> Result<(What<'_>, u8, &[u8]), Stop>
 
 /// An event, where those before it end at a tick, and the running status after it.
 #[tactic(auto, unfolding(midi_model::specs::Reading::event_at))]
+#[inline(always)]
 pub fn event(running: u8, before: u32, bytes: &[u8]) -> Result<(Found<'_>, u8, &[u8]), Stop>
     requires running { IsRunning running }
     requires before { before < 2 ^ 28 }

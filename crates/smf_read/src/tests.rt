@@ -51,7 +51,7 @@ fn with_tracks(alloc: Global, count: u16) -> Result<Vec<u8>, Fail> {
 }
 
 /// Contents of a track, with the offset and kind of their first fault; 0 and 0 for none.
-const CONTENTS: [(&[u8], u32, u8); 18] = [
+const CONTENTS: [(&[u8], u32, u8); 20] = [
     (&[0x80, 0x80, 0, 0xff, 0x2f, 0], 0, 0),
     (&[0x81, 0x82, 0x83, 0x84, 5], 25, 7),
     (
@@ -99,6 +99,15 @@ const CONTENTS: [(&[u8], u32, u8); 18] = [
         0,
     ),
     (&[0, 0x90, 0x45, 0x40, 0x81, 0, 0x45, 0x80, 0], 29, 10),
+    // The same with one data byte.
+    (
+        &[
+            0, 0xc0, 5, 1, 6, 2, 0xd1, 0x40, 3, 0x41, 0x81, 0, 0x42, 0, 0xff, 0x2f, 0,
+        ],
+        0,
+        0,
+    ),
+    (&[0, 0xdf, 0x40, 1, 0xcf, 0x80, 0], 27, 10),
 ];
 
 #[test]
