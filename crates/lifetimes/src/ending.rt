@@ -71,7 +71,7 @@ impl Notes {
     }
 
     /// The same, where a key is told at all: of most channels none is.
-    #[inline]
+    #[inline(always)]
     pub fn end_all(
         &mut self,
         keys: u128,

@@ -1,6 +1,7 @@
 ghost use Rattle.std.specs.Prelude.{replicate, ◌≡◌, ◌≢◌, ◌≤◌, ◌<◌, ◌+◌, ℕ, ℤ, Bool, slice_index, length, List, [], true, false, None, Some, IfSome, OnOk};
 ghost use Rattle.mt_base.specs.Midi.{MidiEvent, view_what};
 ghost use Rattle.mt_base.specs.Valid.{IsValidWhat};
+ghost use Rattle.midi_model.specs.Sysex.{doing};
 ghost use Rattle.retune_model.specs.Options.{Options};
 ghost use Rattle.retune_model.specs.Faults.{Targets};
 ghost use Rattle.receiver.specs.Notes.{has};
@@ -13,6 +14,7 @@ ghost use Rattle.lifetimes.specs.Stands.{PortStands};
 
 use crate::change::Begun;
 use crate::notes::{Notes, Struck, sounding_of};
+use crate::tracks::is_message;
 use key_pitch::Aim;
 use mt_base::{Channel, Memory, Pair, Part, What};
 use mts_msg::is_reset;
@@ -161,7 +163,7 @@ impl Port {
     /// The notes ended that an event ends.
     fn let_go(&mut self, what: &What<'_>, ends: &Ends, tick: u32, tail: u32)
         requires kept { IsKept tail self.old }
-        requires spared { (c k : ℕ) → c < 16 → k < 128 → spares (view_what what.now) c ≡ true
+        requires spared { (c k : ℕ) → c < 16 → k < 128 → spares (doing (view_what what.now)) c ≡ true
             → has (slice_index ends.now.keys c) k ≡ false }
         ensures number { self.new.number ≡ self.old.number }
         ensures player { self.new.player ≡ self.old.player }
@@ -171,10 +173,10 @@ impl Port {
     {
         if let Some(channel) = own_channel(what) {
             self.end_here(channel, ends, tick, tail);
+        } else if is_message(what) {
+            self.end_all(ends, tick, tail);
         } else if resets(what) {
             self.clear();
-        } else {
-            self.end_all(ends, tick, tail);
         }
     }
 
@@ -266,7 +268,7 @@ fn resets(what: &What<'_>) -> bool
 
 /// The channel of a message that ends notes of no other.
 fn own_channel(what: &What<'_>) -> Option<Channel>
-    ensures spares { IfSome result (λ c. (d : ℕ) → d ≢ c → spares (view_what what.now) d ≡ true) }
+    ensures spares { IfSome result (λ c. (d : ℕ) → d ≢ c → spares (doing (view_what what.now)) d ≡ true) }
     ensures no_reset { IfSome result (λ c. is_reset_of (view_what what.now) ≡ false) }
 {
     match *what {

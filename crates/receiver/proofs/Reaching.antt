@@ -1,24 +1,27 @@
 -- A message that reaches the notes of its own channel alone, in a player in which no note is left that nothing holds.
-use Rattle.std.proofs.Common.{◌-◌, ◌⊎◌, nat_le, nat_lt, arith, ◌≡◌, ◌≢◌, ◌<◌, ◌+◌, ◌^◌, ℕ, zero, suc, List, [], ◌∷◌, Bool, true, false, cond, ◌&&◌, ◌||◌, not, nat_eq, None, refl, ap, sym, ◌∙◌, get_or, set, replicate, is_some, bit_and, bit_or, inl, inr}
+use Rattle.std.proofs.Common.{◌-◌, ◌⊎◌, nat_le, nat_lt, arith, ◌≡◌, ◌≢◌, ◌<◌, ◌+◌, ◌^◌, ℕ, zero, suc, List, [], ◌∷◌, Bool, true, false, cond, ◌&&◌, ◌||◌, not, nat_eq, Option, None, Some, refl, ap, sym, ◌∙◌, get_or, set, replicate, is_some, bit_and, bit_or, inl, inr}
 use Rattle.std.proofs.lemmas.Bool.{ne_eqb, eqb-true}
 use Rattle.std.proofs.lemmas.Bool.Decides.{eqb_tells, leb_tells}
 use Rattle.std.proofs.lemmas.List.{get_or-set_same, get_or-set_other, get_or-replicate}
 use Rattle.std.specs.Int.{bit_not, w128}
-use Rattle.mt_base.specs.Midi.{channel_of}
+use Rattle.mt_base.specs.Midi.{channel_of, view_what}
 use Rattle.mt_base.specs.declared.event.Msg.{Msg}
 use Rattle.mt_base.specs.declared.event.Msg.TheVariants.{NoteOn, NoteOff, KeyPressure, Control, Program, Pressure, Bend}
+use Rattle.mt_base.specs.declared.event.What.{What}
+use Rattle.mt_base.specs.declared.event.What.TheVariants.{Message, Sysex, Meta}
 use Rattle.midi_model.specs.Channel.{Channel, Role, Stored, EntryHigh, EntryLow, NrpnLow, NrpnHigh, RpnLow, RpnHigh, AllSoundOff, ResetControllers, AllNotesOff, Ignored, control_of, controlled, role, apply, default_channel}
-use Rattle.midi_model.specs.Sysex.{Plays}
+use Rattle.midi_model.specs.Sysex.{Doing, Plays, Resets, Tunes, Nothing, Retune, doing, tunes, is_reset, tuning_of}
 use Rattle.midi_model.specs.Zones.{Zones, governor, zones_with, bend_ranges}
 use Rattle.midi_model.specs.Notes.{Note, sounds, is_at, is_pedal_down, releasing}
 use Rattle.midi_model.specs.Music.{Music, asked_by, asks, zones_after, channels_after, settle_note}
+use Rattle.receiver.specs.declared.ends.Ends.{Ends}
 use Rattle.receiver.specs.declared.player.Player.{Player}
 use Rattle.receiver.specs.Heard.{without_pedal}
 use Rattle.receiver.specs.Following.{SlotsBecome}
 use Rattle.receiver.specs.Notes.{has}
-use Rattle.receiver.specs.Reach.{is_wide_role, is_wide, is_hold, is_own, IsCalm}
+use Rattle.receiver.specs.Reach.{is_wide_role, is_wide, is_hold, is_own, is_silent, spares, IsCalm, TellsBy}
 use Rattle.receiver.specs.Stands.{slot, states_of, set_up_of}
-use Rattle.receiver.specs.Turns.{kept, only_on, settled_by, turned, acted, sounding_after, strikes_by}
+use Rattle.receiver.specs.Turns.{kept, only_on, settled_by, turned, acted, sounding_after, strikes, strikes_by}
 use Rattle.receiver.specs.Zones.{zones_in}
 use Rattle.receiver.proofs.Bits.{has_none}
 use Rattle.receiver.proofs.Here.{Slot, IsHere, slot_here, kept_where}
@@ -298,3 +301,38 @@ ended_mask i before now s c k was is msg low fits below e hb hn hs =
 pub masked : (keys : List ℕ) (i x c k : ℕ) (b : Bool) → keys ≡ replicate 16 0 → has (get_or (set (replicate 16 0) i x) c 0) k ≡ b
     → has (get_or (set keys i x) c 0) k ≡ b
 masked keys i x c k b clear is = ap (λ l. has (get_or (set l i x) c 0) k) clear ∙ is
+
+-- ---- an event that does nothing to the music ends none
+silent_ends : (d : Doing) (c k : ℕ) (was : Slot) → is_silent d ≡ true → (is_some was && (strikes d c k || not (is_some was))) ≡ false
+silent_ends (Plays msg) c k was e = absurd cc
+silent_ends Resets c k was e = absurd cc
+silent_ends (Tunes r) c k was e = neither (is_some was)
+silent_ends Nothing c k was e = neither (is_some was)
+
+-- no bit is set before it
+pub none_set : (keys : List ℕ) (c k : ℕ) → keys ≡ replicate 16 0 → c < 16 → has (get_or keys c 0) k ≡ false
+none_set keys c k clear cl = ap (λ l. has (get_or l c 0) k) clear ∙ ap (λ y. has y k) (get_or-replicate 16 c 0 0 cl) ∙ has_none k
+
+pub silent_tells : (r : Player) (d : Doing) (ends : Ends) → is_silent d ≡ true → ends.keys ≡ replicate 16 0 → TellsBy r d r ends
+silent_tells r d ends e clear c k cl kl = none_set ends.keys c k clear cl ∙ sym (silent_ends d c k (slot r c k) e)
+
+-- ---- an event that spares a channel: one that does nothing to the music, or a message that reaches the notes of its own channel alone
+left_of : (a b : Bool) → (a && b) ≡ true → a ≡ true
+left_of true b e = refl
+left_of false b e = absurd cc
+
+pub own_spares : (z : Zones) (msg : Msg) (c : ℕ) → spares (Plays msg) c ≡ true → is_own z msg ≡ true
+own_spares z msg c e = rw (left_of (not (is_wide msg)) (not (nat_eq c (channel_of msg))) e) refl
+
+sysex_spares : (lead reset : Bool) (o : Option Retune) (c : ℕ) → spares (cond lead (cond reset Resets (tunes o)) Nothing) c ≡ true
+    → is_silent (cond lead (cond reset Resets (tunes o)) Nothing) ≡ true
+sysex_spares true true o c e = absurd cc
+sysex_spares true false None c e = refl
+sysex_spares true false (Some r) c e = refl
+sysex_spares false reset o c e = refl
+
+pub other_spares : (what : What) (c : ℕ) → ((msg : Msg) → what ≡ Message msg → ⊥) → spares (doing (view_what what)) c ≡ true
+    → is_silent (doing (view_what what)) ≡ true
+other_spares (Message msg) c none e = absurd (none msg refl)
+other_spares (Sysex lead bytes) c none e = sysex_spares (nat_eq lead 240) (is_reset bytes.now) (tuning_of bytes.now) c e
+other_spares (Meta kind bytes) c none e = refl

@@ -13,7 +13,7 @@ use Rattle.receiver.specs.declared.ends.Ends.{Ends}
 use Rattle.receiver.specs.declared.player.Player.{Player}
 use Rattle.receiver.specs.Sounding.{sounding_at, ended_on}
 use Rattle.receiver.specs.Following.{FollowsBy}
-use Rattle.receiver.specs.Reach.{TellsBy}
+use Rattle.receiver.specs.Reach.{is_silent, TellsBy}
 use Rattle.receiver.specs.Stands.{PlayerStands, HoldValues, HasRoom, TellsEnded, set_up_of, slot, selected_in}
 use Rattle.receiver.specs.State.{program_chosen, program_by}
 use Rattle.receiver.specs.declared.tunings.Tunings.{Tunings}
@@ -146,10 +146,24 @@ stands_then r s t es e h room f at one =
       few = few_more r es e h room;
     }
 
--- a tuning message changes nothing that the player keeps
+-- an event that does nothing to the music changes nothing that the player keeps
+pub silent_follows : (p : Player) (t : ℕ) (d : Doing) → is_silent d ≡ true → FollowsBy p t d p
+silent_follows p t (Plays msg) e = absurd cc
+silent_follows p t Resets e = absurd cc
+silent_follows p t (Tunes r) e = record { states = refl; zones = refl; begun = refl; notes = λ c k cl kl. refl; selected = refl }
+silent_follows p t Nothing e = record { states = refl; zones = refl; begun = refl; notes = λ c k cl kl. refl; selected = refl }
+
+silent_tunes : (o : Option Retune) → is_silent (tunes o) ≡ true
+silent_tunes None = refl
+silent_tunes (Some r) = refl
+
+pub silent_reset : (o : Option Retune) (b : Bool) → is_silent (cond b Resets (tunes o)) ≡ not b
+silent_reset o true = refl
+silent_reset o false = silent_tunes o
+
+-- nor does a tuning message
 pub unplayed : (p : Player) (t : ℕ) (o : Option Retune) → FollowsBy p t (tunes o) p
-unplayed p t None = record { states = refl; zones = refl; begun = refl; notes = λ c k cl kl. refl; selected = refl }
-unplayed p t (Some r) = record { states = refl; zones = refl; begun = refl; notes = λ c k cl kl. refl; selected = refl }
+unplayed p t o = silent_follows p t (tunes o) (silent_tunes o)
 
 -- the tuning programs
 pub values_then : (old new : Tunings) (es : List MidiEvent) (e : MidiEvent) → HoldValues old es → HearsBy (doing e.what) old new → HoldValues new (es ++ e ∷ [])

@@ -1,10 +1,10 @@
 -- Which messages may reach notes of other channels than their own, and a player in which no note is left to settle.
 use Rattle.std.specs.Prelude.{◌≡◌, ◌<◌, ℕ, Bool, true, false, ◌&&◌, ◌||◌, not, nat_eq, is_some, slice_index}
-use Rattle.mt_base.specs.Midi.{MidiWhat, Says, channel_of}
+use Rattle.mt_base.specs.Midi.{channel_of}
 use Rattle.mt_base.specs.declared.event.Msg.{Msg}
 use Rattle.mt_base.specs.declared.event.Msg.TheVariants.{Control}
 use Rattle.midi_model.specs.Channel.{Role, Stored, EntryHigh, AllSoundOff, ResetControllers, AllNotesOff, role}
-use Rattle.midi_model.specs.Sysex.{Doing}
+use Rattle.midi_model.specs.Sysex.{Doing, Plays, Resets, Tunes, Nothing}
 use Rattle.midi_model.specs.Zones.{Zones}
 use Rattle.receiver.specs.declared.ends.Ends.{Ends}
 use Rattle.receiver.specs.declared.player.Player.{Player}
@@ -35,10 +35,18 @@ is_hold _ = false
 abbrev pub is_own : Zones → Msg → Bool
 is_own z msg = not (is_wide msg) || (is_hold msg && (nat_eq z.lower 0 && nat_eq z.upper 0))
 
--- whether an event ends no note of a channel: a message to another channel that reaches the notes of its own alone
-abbrev pub spares : MidiWhat → ℕ → Bool
-spares (Says msg) c = not (is_wide msg) && not (nat_eq c (channel_of msg))
-spares _ c = false
+-- whether an event does nothing to the music: not to the channels, the zones and the notes, nor to which program a channel selects
+abbrev pub is_silent : Doing → Bool
+is_silent (Plays msg) = false
+is_silent Resets = false
+is_silent (Tunes r) = true
+is_silent Nothing = true
+
+-- whether an event ends no note of a channel: one that does nothing to the music, or a message to another channel that reaches the
+-- notes of its own alone
+abbrev pub spares : Doing → ℕ → Bool
+spares (Plays msg) c = not (is_wide msg) && not (nat_eq c (channel_of msg))
+spares d c = is_silent d
 
 -- no note is left that nothing holds
 abbrev pub IsCalm : Player → Type 0

@@ -1,5 +1,7 @@
 ghost use Rattle.std.specs.Prelude.{◌≡◌, ℕ};
 ghost use Rattle.mt_base.specs.Midi.{view_what};
+ghost use Rattle.midi_model.specs.Sysex.{doing};
+ghost use Rattle.receiver.specs.Reach.{is_silent};
 
 use crate::ends::Ends;
 use crate::playing::Playing;
@@ -18,6 +20,18 @@ pub struct Player {
     pub(crate) zones: ZoneSizes,
     /// How many notes began.
     pub(crate) begun: u32,
+}
+
+/// Whether an event does nothing to the music: it is a meta event, or a system exclusive message that is
+/// no reset.
+fn is_silent(what: &What<'_>) -> bool
+    ensures { result ≡ is_silent (doing (view_what what.now)) }
+{
+    match *what {
+        What::Message(_) => false,
+        What::Sysex { lead, bytes } => lead != 0xf0 || !is_reset(bytes),
+        What::Meta { .. } => true,
+    }
 }
 
 // What an event does, as a whole.
@@ -160,17 +174,22 @@ impl Player {
         }
     }
 
-    /// An event that may reach all notes, and which of them ended by it.
-    fn step_all(&mut self, tick: u32, what: &What<'_>) -> Ends
+    /// An event that may reach all notes, and which of them ended by it; no bit is set before.
+    fn step_all(&mut self, tick: u32, what: &What<'_>, ends: &mut Ends)
         requires valid { IsValidWhat (view_what what.now) }
         requires room { HasRoom self.old (view_what what.now) }
         requires few { self.old.begun < 4294967295 }
+        requires clear { ends.old.keys ≡ replicate 16 0 }
         ensures follows { FollowsBy self.old tick (doing (view_what what.now)) self.new }
-        ensures tells { TellsBy self.old (doing (view_what what.now)) self.new result }
+        ensures tells { TellsBy self.old (doing (view_what what.now)) self.new ends.new }
+        ensures silent { is_silent (doing (view_what what.now)) ≡ true → ends.new ≡ ends.old }
     {
+        if is_silent(what) {
+            return;
+        }
         let before = self.sounding_keys();
         self.follow(tick, what);
-        self.ended(before, what)
+        *ends = self.ended(before, what);
     }
 
     /// Takes an event at its tick, and sets the bits of the notes that ended by it; no bit is set
@@ -185,7 +204,7 @@ impl Player {
         ensures ends { (es : List MidiEvent) (e : MidiEvent) → PlayerStands self.old es
             → e.tick ≡ tick → e.what ≡ view_what what.now
             → TellsEnded ends.new (after es).music.notes (after (es ++ e ∷ [])).music.notes }
-        ensures spares { (c k : ℕ) → c < 16 → k < 128 → spares (view_what what.now) c ≡ true
+        ensures spares { (c k : ℕ) → c < 16 → k < 128 → spares (doing (view_what what.now)) c ≡ true
             → has (slice_index ends.new.keys c) k ≡ false }
         ensures begun { begun_in self.new ≤ begun_in self.old + 1 }
     {
@@ -195,7 +214,7 @@ impl Player {
             What::Message(ref message) if self.is_own(message) => self.step_here(
                 tick, message, ends,
             ),
-            _ => *ends = self.step_all(tick, what),
+            _ => self.step_all(tick, what, ends),
         }
     }
 
