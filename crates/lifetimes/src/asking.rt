@@ -125,17 +125,17 @@ impl Port {
         }
     }
 
-    /// The state that a channel of a pair needs.
-    pub fn wanted(&self, channel: Channel, steps: i32, range: u8) -> ChannelState
+    /// Gives a channel the state that one of a pair needs.
+    pub fn wanted_into(&self, channel: Channel, steps: i32, range: u8, state: &mut ChannelState)
         requires range_some { 1 ≤ range }
         requires range_high { range ≤ 96 }
         ensures state { (o : Options) (table : Targets) (es : List MidiEvent)
             → AllByRecursion IsValidEvent es → AreInOrder 0 es → IsFaultless o table es
             → PortStands o table es self.now → range ≡ o.range
             → bends_notes o.route ≡ true → is_part o channel ≡ true
-            → state_of result ≡ wanted o table (music_on self.now.number es)
+            → state_of state.new ≡ wanted o table (music_on self.now.number es)
             (pair_on self.now.number channel steps) }
-        ensures tuning { result.tuning ≡ None }
+        ensures tuning { state.new.tuning ≡ None }
     {
         music_laws();
         receiver_laws();
@@ -143,14 +143,13 @@ impl Port {
         port_laws();
         sound_sources();
         drums_stand_apart();
-        let mut state = self.player.state(channel).copy();
+        state.take_over(self.player.state(channel));
         let moved = self.moved(range, channel);
         state.bend_range(range);
         state.set_bend(bend_value(steps, moved));
         state.untune();
         state.relax(u128::MAX);
         state.well_formed();
-        self.press_targets(&mut state, channel, steps);
-        state
+        self.press_targets(state, channel, steps);
     }
 }

@@ -17,25 +17,24 @@ impl Source {
     ghost use Rattle.lifetimes.specs.Stands.{SourceStands};
     ghost use Rattle.lifetimes.specs.Told.{music_on};
 
-    /// The state that a channel of a pair needs. A port without a channel message so far has all
+    /// Gives a channel the state that one of a pair needs. A port without a channel message so far has all
     /// channels as at the start.
-    pub fn wanted(&self, pair: &Pair) -> ChannelState
+    pub fn wanted_into(&self, pair: &Pair, state: &mut ChannelState)
         requires bends { bends_notes (options_of self.now.options).route ≡ true }
         requires part { is_part (options_of self.now.options) (pair.now.part.channel) ≡ true }
         ensures state { (table : Targets) (es : List MidiEvent) → SourceStands table self.now es
-            → state_of result ≡ wanted (options_of self.now.options) table
+            → state_of state.new ≡ wanted (options_of self.now.options) table
             (music_on (pair.now.part.port) es) (pair_of pair.now) }
-        ensures tuning { result.tuning ≡ None }
+        ensures tuning { state.new.tuning ≡ None }
     {
         let range = self.options.range;
         let place = self.place(pair.part.port);
         if place < self.used {
-            return self.ports[place].wanted(pair.part.channel, pair.steps, range);
+            return self.ports[place].wanted_into(pair.part.channel, pair.steps, range, state);
         }
-        let mut state = ChannelState::new();
+        *state = ChannelState::new();
         state.bend_range(range);
         state.set_bend(bend_value(pair.steps, 0));
-        state
     }
 }
 
@@ -56,6 +55,20 @@ impl<T: Aims> Parts<T> {
             (music_on (pair.now.part.port) es) (pair_of pair.now) }
         ensures tuning { result.tuning ≡ None }
     {
-        self.source.wanted(pair)
+        let mut state = ChannelState::new();
+        self.wanted_into(pair, &mut state);
+        state
+    }
+
+    /// Gives a channel that state.
+    pub fn wanted_into(&self, pair: &Pair, state: &mut ChannelState)
+        requires bends { bends_notes (asked self.now).route ≡ true }
+        requires part { is_part (asked self.now) (pair.now.part.channel) ≡ true }
+        ensures state { (es : List MidiEvent) → Stands (T.table (table_in self.now)) self.now es
+            → state_of state.new ≡ wanted (asked self.now) (T.table (table_in self.now))
+            (music_on (pair.now.part.port) es) (pair_of pair.now) }
+        ensures tuning { state.new.tuning ≡ None }
+    {
+        self.source.wanted_into(pair, state);
     }
 }

@@ -88,6 +88,17 @@ impl ChannelState {
         }
     }
 
+    /// The parameters in `others` once more.
+    fn copied_others(&self) -> ArrayVec<Param, 16>
+        ensures { result.items ≡ self.now.others.items }
+    {
+        let mut others = ArrayVec::new();
+        for param in self.others.as_slice() {
+            others.push(*param);
+        }
+        others
+    }
+
     /// An equal state.
     pub fn copy(&self) -> ChannelState
         ensures state { state_of result ≡ state_of self.now }
@@ -98,15 +109,11 @@ impl ChannelState {
         ensures others { result.others.items ≡ self.now.others.items }
         ensures tuning { result.tuning ≡ self.now.tuning }
     {
-        let mut others = ArrayVec::new();
-        for param in self.others.as_slice() {
-            others.push(*param);
-        }
         ChannelState {
             controls: self.controls.copy(),
             keys: self.keys.copy(),
             fixed: self.fixed,
-            others,
+            others: self.copied_others(),
             rpn: self.rpn,
             nrpn: self.nrpn,
             registered: self.registered,
@@ -115,6 +122,23 @@ impl ChannelState {
             bend: self.bend,
             pressure: self.pressure,
         }
+    }
+
+    /// Takes over all of another state but the pressures of the keys and the tuning program.
+    pub fn take_over(&mut self, other: &ChannelState)
+        ensures own { own_of self.new ≡ own_of other.now }
+        ensures keys { self.new.keys ≡ self.old.keys }
+        ensures tuning { self.new.tuning ≡ self.old.tuning }
+    {
+        self.controls.apply(&other.controls);
+        self.fixed = other.fixed;
+        self.others = other.copied_others();
+        self.rpn = other.rpn;
+        self.nrpn = other.nrpn;
+        self.registered = other.registered;
+        self.voice = other.voice;
+        self.bend = other.bend;
+        self.pressure = other.pressure;
     }
 
     /// Each state is one that a channel can be in, and at most 16 of its parameters count. The

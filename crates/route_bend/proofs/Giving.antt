@@ -60,7 +60,7 @@ cleared_next channel i old now new within low port states steps given so = recor
 all_cleared : (channel i : ℕ) (old new : Channels) → 16 ≤ i → length old.given ≡ 16 → IsCleared channel i old new
     → (a c : ℕ) → c < 16 → is_given new a c ≡ cond (nat_eq c channel) false (is_given old a c)
 all_cleared channel i old new far lo so a c below = elim (cases_lt a 16) [
-  | inl low ↦ so.given a c below ∙ at_last (nat_eq c channel) i a (is_given old a c) false far low
+  | inl low ↦ so.given a c below ∙ at_last (nat_eq c channel) i a (is_given old a c) false (λ here. omega (arith, far, low))
   | inr past ↦ (let was : is_given old a c ≡ false = ap (λ m. has m c) (get_or_past old.given a 0 (omega (arith, lo, past))) ∙ has_none c in
       let is : is_given new a c ≡ false = ap (λ m. has m c) (get_or_past new.given a 0 (omega (arith, lo, so.long, past))) ∙ has_none c in
       rw (is, was) (none (nat_eq c channel)))

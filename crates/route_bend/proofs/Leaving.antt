@@ -1,15 +1,15 @@
 -- The channels of a part are let go of, one after another.
-use Rattle.std.proofs.Common.{◌≡◌, ◌≢◌, ◌<◌, ◌≤◌, ◌+◌, ◌*◌, ◌^◌, ◌%◌, ◌∙◌, ℕ, List, Bool, true, false, not, ◌&&◌, nat_eq, nat_lt, bit_and, set, length, slice_index, refl, sym, ap}
+use Rattle.std.proofs.Common.{◌≡◌, ◌≢◌, ◌<◌, ◌+◌, ◌*◌, ◌^◌, ◌%◌, ◌∙◌, ℕ, List, Bool, true, false, cond, not, ◌&&◌, nat_eq, nat_lt, bit_and, set, length, slice_index, refl, sym, ap}
 use Rattle.std.specs.Int.{bit_not, w16}
-use Rattle.std.proofs.lemmas.Bool.{and_right}
+use Rattle.std.proofs.lemmas.Bool.{and_right, eqb-true}
 use Rattle.std.proofs.lemmas.List.{get_or-set_same, get_or-set_other}
 use Rattle.retune_model.specs.Pairs.{Pair}
 use Rattle.receiver.specs.Notes.{has}
-use Rattle.route_bend.specs.Channels.{is_given, pair_on, Leaves}
+use Rattle.route_bend.specs.Channels.{is_given, pair_on, EndBy, Leaves}
 use Rattle.route_bend.specs.Single.{LeavesSome}
 use Rattle.route_bend.specs.declared.channels.Channels.{Channels}
-use Rattle.route_bend.proofs.Masks.{has_none, cleared_here, cleared_beside}
-use Rattle.route_bend.proofs.OneByOne.{further, at_first, at_last, at_one}
+use Rattle.route_bend.proofs.Masks.{cleared_here, cleared_beside}
+use Rattle.route_bend.proofs.OneByOne.{further, at_first, at_one, behind_end}
 
 -- the pair of a run, where neither the port nor the steps change
 pub same_pair : (old new : Channels) (a c : ℕ) → new.port ≡ old.port → new.steps ≡ old.steps → pair_on new a c ≡ pair_on old a c
@@ -86,15 +86,19 @@ leaves_next stays part i old now new so step = record {
       ∙ ap (λ p. is_given old a c && stays p) (same_pair old now a c so.kept.port so.steps));
 }
 
-pub leaves_last : (stays : Pair → Bool) (part i : ℕ) (old new : Channels) → 16 ≤ i
+-- a channel that wasn't given to a part isn't, whether its pair is there or not
+passed_over : (here before given stays : Bool) → (here ≡ true → before ≡ false → given ≡ false)
+    → cond (here && before) (given && stays) given ≡ cond here (given && stays) given
+passed_over false before given stays off = refl
+passed_over true true given stays off = refl
+passed_over true false given stays off = off refl refl ∙ sym (ap (λ g. g && stays) (off refl refl))
+
+pub leaves_last : (stays : Pair → Bool) (part i : ℕ) (old new : Channels) → EndBy old part i
     → LeavesSome (λ c. nat_lt c i) stays part old new → Leaves stays part old new
-leaves_last stays part i old new far so = record {
+leaves_last stays part i old new none so = record {
   kept = so.kept;
   steps = so.steps;
   given = λ a c below. so.given a c below
-      ∙ at_last (nat_eq a part) i c (is_given old a c) (is_given old a c && stays (pair_on old a c)) far below;
+      ∙ passed_over (nat_eq a part) (nat_lt c i) (is_given old a c) (stays (pair_on old a c))
+      (λ here behind. ap (λ x. is_given old x c) (eqb-true a part here) ∙ none c (behind_end c i behind) below);
 }
-
--- a part that was given no channel
-pub none_given : (s : Channels) (part : ℕ) → slice_index s.given part ≡ 0 → (c : ℕ) → is_given s part c ≡ false
-none_given s part none c = ap (λ m. has m c) none ∙ has_none c

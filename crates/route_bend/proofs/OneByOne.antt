@@ -10,6 +10,12 @@ still c i apart = elim (leb_tells (suc c) i) [
   | inr t ↦ le-ltb c (i + 1) (omega (arith, t.1, apart)) ∙ sym t.0
 ]
 
+pub behind_end : (c i : ℕ) → nat_lt c i ≡ false → i ≤ c
+behind_end c i off = elim (leb_tells (suc c) i) [
+  | inl t ↦ absurd (let both : true ≡ false = sym t.0 ∙ off in cc)
+  | inr t ↦ omega (arith, t.1)
+]
+
 -- one channel more: what it becomes is what the whole makes of the old value
 pub further : {A : Type 0} (here : Bool) (i c : ℕ) (old to now new at : A)
     → now ≡ cond (here && nat_lt c i) to old
@@ -29,9 +35,9 @@ pub at_first : {A : Type 0} (here : Bool) (c : ℕ) (old to : A) → old ≡ con
 at_first false c old to = refl
 at_first true c old to = sym (cond-false (nat_lt c 0) to old (le-ltb c 0 (omega arith)))
 
-pub at_last : {A : Type 0} (here : Bool) (i c : ℕ) (old to : A) → 16 ≤ i → c < 16 → cond (here && nat_lt c i) to old ≡ cond here to old
-at_last false i c old to far low = refl
-at_last true i c old to far low = cond-true (nat_lt c i) to old (lt-ltb c i (omega (arith, far, low)))
+pub at_last : {A : Type 0} (here : Bool) (i c : ℕ) (old to : A) → (here ≡ true → c < i) → cond (here && nat_lt c i) to old ≡ cond here to old
+at_last false i c old to below = refl
+at_last true i c old to below = cond-true (nat_lt c i) to old (lt-ltb c i (below refl))
 
 -- what becomes of one place in a table
 pub at_one : {A : Type 0} (a b c d : ℕ) (old new at : A)

@@ -1,6 +1,7 @@
 -- The channels of a part get their states, one after another, and the messages that bring them there.
-use Rattle.std.proofs.Common.{◌≡◌, ◌≢◌, ◌<◌, ◌≤◌, ◌+◌, ◌-◌, ◌++◌, ◌∙◌, ℕ, suc, List, [], ◌∷◌, Bool, true, false, cond, ◌&&◌, nat_eq, nat_lt, set, get_or, map, length, slice_index, refl, sym, ap, arith}
+use Rattle.std.proofs.Common.{◌≡◌, ◌≢◌, ◌<◌, ◌≤◌, ◌+◌, ◌-◌, ◌++◌, ◌∙◌, ℕ, zero, suc, List, [], ◌∷◌, Bool, true, false, cond, ◌&&◌, nat_eq, nat_lt, set, get_or, map, length, slice_index, refl, sym, ap, arith, inl, inr}
 use Rattle.std.proofs.lemmas.Bool.{le-ltb, ne_eqb, eq-eqb}
+use Rattle.std.proofs.lemmas.Bool.Decides.{leb_tells}
 use Rattle.std.proofs.lemmas.List.{append_assoc, append-nil, map-set, length-map}
 use Rattle.mt_base.specs.declared.event.Msg.{Msg}
 use Rattle.mt_base.specs.declared.event.Msg.TheVariants.{Control}
@@ -11,12 +12,12 @@ use Rattle.retune_model.specs.Pairs.{Pair}
 use Rattle.receiver.specs.Notes.{has}
 use Rattle.receiver.specs.State.{state_of}
 use Rattle.receiver.specs.declared.state.ChannelState.{ChannelState}
-use Rattle.route_bend.specs.Channels.{is_given, state_in, pair_on, Renews}
+use Rattle.route_bend.specs.Channels.{is_given, state_in, pair_on, EndBy, Renews}
 use Rattle.route_bend.specs.Sent.{brought, sent}
 use Rattle.route_bend.specs.Single.{RenewsSome}
 use Rattle.route_bend.specs.declared.channels.Channels.{Channels}
 use Rattle.route_bend.proofs.OneByOne.{further, at_first, at_last, at_one_of, place_set}
-use Rattle.route_bend.proofs.Leaving.{same_pair, none_given}
+use Rattle.route_bend.proofs.Leaving.{same_pair}
 
 -- one channel gets a state
 state_set_in : (xs : List ChannelState) (i c : ℕ) (state : ChannelState) → i < length xs
@@ -48,6 +49,13 @@ renewed_one wanted part number old new state within port given steps states is o
     clash : (c : ℕ) → c ≡ number → is_given old part c ≡ false → ⊥
     clash c same off = (let both : true ≡ false = sym on ∙ ap (is_given old part) (sym same) ∙ off in cc)
 
+-- a channel that was given to a part comes before its end
+before_end : (s : Channels) (part i c : ℕ) → EndBy s part i → c < 16 → is_given s part c ≡ true → c < i
+before_end s part i c none low on = elim (leb_tells i c) [
+  | inl t ↦ absurd (let both : true ≡ false = sym on ∙ none c t.1 low in cc)
+  | inr t ↦ omega (arith, t.1)
+]
+
 pub renews_first : (wanted : Pair → State) (part : ℕ) (s : Channels) → RenewsSome (λ c. nat_lt c 0) wanted part s s
 renews_first wanted part s = record {
   kept = record { port = refl; given = refl; steps = refl };
@@ -70,11 +78,12 @@ renews_next wanted part i old now new so step = record {
       (λ here same. ap wanted (same_pair old now part c so.kept.port so.kept.steps));
 }
 
-pub renews_last : (wanted : Pair → State) (part i : ℕ) (old new : Channels) → 16 ≤ i
+pub renews_last : (wanted : Pair → State) (part i : ℕ) (old new : Channels) → EndBy old part i
     → RenewsSome (λ c. nat_lt c i) wanted part old new → Renews wanted part old new
-renews_last wanted part i old new far so = record {
+renews_last wanted part i old new none so = record {
   kept = so.kept;
-  states = λ c below. so.states c below ∙ at_last (is_given old part c) i c (state_in old c) (wanted (pair_on old part c)) far below;
+  states = λ c below. so.states c below
+      ∙ at_last (is_given old part c) i c (state_in old c) (wanted (pair_on old part c)) (before_end old part i c none below);
 }
 
 -- ---- what is sent
@@ -82,9 +91,6 @@ renews_last wanted part i old new far so = record {
 -- the channels from one on: that one, and those behind it
 up_from : (i : ℕ) → i < 16 → from_up i (16 - i) ≡ i ∷ from_up (i + 1) (16 - (i + 1))
 up_from i low = (let next : 16 - i ≡ suc (16 - (i + 1)) = omega (arith, low) in ap (from_up i) next)
-
-up_end : (i : ℕ) → 16 ≤ i → from_up i (16 - i) ≡ []
-up_end i far = (let none : 16 - i ≡ 0 = omega (arith, far) in ap (from_up i) none)
 
 -- what is put so far, with what the channels from one on are still to cause, is the whole
 pub put_next : (causes : List ℕ → List Msg) (i : ℕ) (now new whole : List Msg) → i < 16
@@ -98,9 +104,9 @@ put_next causes i now new whole low parts so put =
     ∙ ap (λ (ms : List Msg). now ++ ms) (sym (ap causes (up_from i low) ∙ parts i rest))
     ∙ so
 
-pub put_last : (causes : List ℕ → List Msg) (i : ℕ) (now whole : List Msg) → 16 ≤ i → causes [] ≡ []
+pub put_last : (causes : List ℕ → List Msg) (i : ℕ) (now whole : List Msg) → causes (from_up i (16 - i)) ≡ []
     → now ++ causes (from_up i (16 - i)) ≡ whole → now ≡ whole
-put_last causes i now whole far none so = sym (ap (λ (ms : List Msg). now ++ ms) (ap causes (up_end i far) ∙ none) ∙ append-nil now) ∙ so
+put_last causes i now whole none so = sym (ap (λ (ms : List Msg). now ++ ms) none ∙ append-nil now) ∙ so
 
 pub brought_parts : (wanted : Pair → State) (s : Channels) (part c : ℕ) (cs : List ℕ)
     → brought wanted s part (c ∷ cs) ≡ brought wanted s part (c ∷ []) ++ brought wanted s part cs
@@ -131,9 +137,19 @@ brings_one wanted s part number channel now goal out new on is_channel is_now is
     (ap (λ c. bring c now goal) is_channel ∙ ap (λ x. bring number x goal) is_now ∙ ap (bring number (state_in s number)) is_goal
     ∙ sym (append-nil one) ∙ ap (λ b. cond b one [] ++ []) (sym on))
 
-pub brought_none : (wanted : Pair → State) (s : Channels) (part : ℕ) → slice_index s.given part ≡ 0 → (cs : List ℕ) → brought wanted s part cs ≡ []
-brought_none wanted s part none [] = refl
-brought_none wanted s part none (c ∷ cs) = (let off = none_given s part none c in rw off (brought_none wanted s part none cs))
+-- channels that weren't given to a part get nothing
+nothing_from : (causes : List ℕ → List Msg) (s : Channels) (part i n : ℕ) → ((c : ℕ) → i ≤ c → c < i + n → is_given s part c ≡ false)
+    → causes [] ≡ [] → ((c : ℕ) (cs : List ℕ) → is_given s part c ≡ false → causes (c ∷ cs) ≡ causes cs) → causes (from_up i n) ≡ []
+nothing_from causes s part i zero off none over = none
+nothing_from causes s part i (suc n) off none over =
+    over i (from_up (i + 1) n) (off i (omega arith) (omega arith))
+    ∙ nothing_from causes s part (i + 1) n (λ c from low. off c (omega (arith, from)) (omega (arith, low))) none over
+
+off_from : (s : Channels) (part i : ℕ) → EndBy s part i → (c : ℕ) → i ≤ c → c < i + (16 - i) → is_given s part c ≡ false
+off_from s part i end c from low = end c from (omega (arith, from, low))
+
+pub brought_none : (wanted : Pair → State) (s : Channels) (part i : ℕ) → EndBy s part i → brought wanted s part (from_up i (16 - i)) ≡ []
+brought_none wanted s part i end = nothing_from (brought wanted s part) s part i (16 - i) (off_from s part i end) refl (λ c cs off. rw off refl)
 
 pub sent_parts : (s : Channels) (part n v c : ℕ) (cs : List ℕ) → sent s part n v (c ∷ cs) ≡ sent s part n v (c ∷ []) ++ sent s part n v cs
 sent_parts s part n v c cs =
@@ -145,6 +161,5 @@ pub sends_one : (s : Channels) (part n v number channel : ℕ) (out new : List M
 sends_one s part n v number channel out new on is_channel put =
     put ∙ ap (λ (ms : List Msg). out ++ ms) (ap (λ c. Control c n v ∷ []) is_channel ∙ ap (λ b. cond b (Control number n v ∷ []) [] ++ []) (sym on))
 
-pub sent_none : (s : Channels) (part n v : ℕ) → slice_index s.given part ≡ 0 → (cs : List ℕ) → sent s part n v cs ≡ []
-sent_none s part n v none [] = refl
-sent_none s part n v none (c ∷ cs) = (let off = none_given s part none c in rw off (sent_none s part n v none cs))
+pub sent_none : (s : Channels) (part n v i : ℕ) → EndBy s part i → sent s part n v (from_up i (16 - i)) ≡ []
+sent_none s part n v i end = nothing_from (sent s part n v) s part i (16 - i) (off_from s part i end) refl (λ c cs off. rw off refl)

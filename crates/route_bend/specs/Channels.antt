@@ -1,5 +1,5 @@
 -- The channels of one port of the output, as the program keeps them.
-use Rattle.std.specs.Prelude.{◌≡◌, ◌<◌, ◌&&◌, ℕ, ℤ, pos, Bool, false, nat_eq, if◌then◌else◌, get_or, map, slice_index}
+use Rattle.std.specs.Prelude.{◌≡◌, ◌<◌, ◌≤◌, ◌&&◌, ℕ, ℤ, pos, Bool, false, nat_eq, if◌then◌else◌, get_or, map, slice_index}
 use Rattle.midi_model.specs.Channel.{State, default_state}
 use Rattle.retune_model.specs.Faults.{int_eq}
 use Rattle.retune_model.specs.Pairs.{Pair}
@@ -10,6 +10,10 @@ use Rattle.route_bend.specs.declared.channels.Channels.{Channels}
 -- whether channel c was given to a run of part a last
 abbrev pub is_given : Channels → ℕ → ℕ → Bool
 is_given s a c = has (slice_index s.given a) c
+
+-- no channel from this one on was given to a run of part a
+abbrev pub EndBy : Channels → ℕ → ℕ → Type 0
+EndBy s a end = (c : ℕ) → end ≤ c → c < 16 → is_given s a c ≡ false
 
 abbrev pub steps_in : Channels → ℕ → ℤ
 steps_in s c = get_or s.steps c (pos 0)

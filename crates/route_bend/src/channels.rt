@@ -1,4 +1,4 @@
-ghost use Rattle.std.specs.Prelude.{◌≡◌, ◌≢◌, ◌<◌, ◌++◌, ℕ, List, [], ◌∷◌, true, false, IfSome, IfNone, OnOk, map, nat_eq, replicate};
+ghost use Rattle.std.specs.Prelude.{◌≡◌, ◌≢◌, ◌<◌, ◌≤◌, ◌++◌, ℕ, List, [], ◌∷◌, true, false, IfSome, IfNone, OnOk, map, nat_eq, replicate};
 ghost use Rattle.mt_base.specs.Midi.{MidiEvent};
 ghost use Rattle.midi_model.specs.Channel.{default_state};
 ghost use Rattle.retune_model.specs.Options.{bends_notes};
@@ -9,7 +9,7 @@ ghost use Rattle.receiver.specs.State.{state_of};
 ghost use Rattle.lifetimes.specs.Views.{pair_of};
 ghost use Rattle.lifetimes.specs.Stands.{Stands, asked, table_in};
 ghost use Rattle.lifetimes.specs.Told.{is_held, music_on};
-ghost use Rattle.route_bend.specs.Channels.{is_given, steps_in, is_on, Leaves, Renews, Gives, BeginsOn, IsFresh};
+ghost use Rattle.route_bend.specs.Channels.{is_given, steps_in, is_on, EndBy, Leaves, Renews, Gives, BeginsOn, IsFresh};
 ghost use Rattle.route_bend.specs.Channels.{pair_on as pair_in};
 ghost use Rattle.route_bend.specs.Sent.{brought, sent, relaxed, begun_on};
 ghost use Rattle.route_bend.specs.Single.{LeavesSome, RenewsSome, TakesAway, readied};
@@ -106,7 +106,15 @@ impl Channels {
         self.given[part.number() as usize] & (1 << number) != 0
     }
 
-    /// The pair of that run.
+    /// The number behind the last channel, 0 to 15, that was given to a run of a part; 0 where there is none.
+    fn end(&self, part: Channel) -> u8
+        ensures high { result ≤ 16 }
+        ensures none { EndBy self.now part result }
+    {
+        16 - self.given[part.number() as usize].leading_zeros() as u8
+    }
+
+    /// The pair of the run that a channel was given to.
     fn pair_on(&self, part: Channel, number: u8) -> Pair
         requires { number < 16 }
         ensures pair { pair_of result ≡ pair_in self.now part number }
@@ -142,12 +150,28 @@ impl Channels {
             → Leaves (is_held (asked parts.now) (T.table (table_in parts.now)) es) part
             self.old self.new }
     {
-        if self.given[part.number() as usize] == 0 {
-            return;
-        }
-        for number in 0..16u8 {
+        for number in 0..self.end(part) {
             self.leave_one(parts, part, number);
         }
+    }
+
+    // The state of a channel is large: what makes one is a function of its own, so that a message whose
+    // part has no channel doesn't take room for it.
+
+    /// A channel that was given to a run of a part gets the state that its pair needs.
+    #[inline(never)]
+    fn renew_given<T: Aims>(&mut self, parts: &Parts<T>, part: Channel, number: u8)
+        requires number { number < 16 }
+        requires bends { bends_notes (asked parts.now).route ≡ true }
+        requires part { is_part (asked parts.now) part ≡ true }
+        requires given { is_given self.old part number ≡ true }
+        ensures { (es : List MidiEvent) → Stands (T.table (table_in parts.now)) parts.now es
+            → RenewsSome (λ c. nat_eq c number)
+            (wanted (asked parts.now) (T.table (table_in parts.now))
+            (music_on self.old.port es)) part self.old self.new }
+    {
+        let pair = self.pair_on(part, number);
+        parts.wanted_into(&pair, &mut self.states[number as usize]);
     }
 
     /// A channel of a part gets the state that its pair needs, where it was given to one.
@@ -161,7 +185,7 @@ impl Channels {
             (music_on self.old.port es)) part self.old self.new }
     {
         if self.is_given(part, number) {
-            self.states[number as usize] = parts.wanted(&self.pair_on(part, number));
+            self.renew_given(parts, part, number);
         }
     }
 
@@ -173,12 +197,37 @@ impl Channels {
             → Renews (wanted (asked parts.now) (T.table (table_in parts.now))
             (music_on self.old.port es)) part self.old self.new }
     {
-        if self.given[part.number() as usize] == 0 {
-            return;
-        }
-        for number in 0..16u8 {
+        for number in 0..self.end(part) {
             self.renew_one(parts, part, number);
         }
+    }
+
+    /// A channel that was given to a run of a part is brought to the state that its pair needs.
+    #[inline(never)]
+    fn bring_given<T: Aims>(
+        &mut self,
+        parts: &Parts<T>,
+        part: Channel,
+        number: u8,
+        out: &mut Sending,
+    ) -> Result<(), Memory>
+        requires number { number < 16 }
+        requires bends { bends_notes (asked parts.now).route ≡ true }
+        requires part { is_part (asked parts.now) part ≡ true }
+        requires given { is_given self.old part number ≡ true }
+        ensures sent { (es : List MidiEvent) → Stands (T.table (table_in parts.now)) parts.now es
+            → OnOk result (out.new.messages.items ≡ out.old.messages.items
+            ++ brought (wanted (asked parts.now) (T.table (table_in parts.now))
+            (music_on self.old.port es)) self.old part (number ∷ [])) }
+        ensures states { (es : List MidiEvent) → Stands (T.table (table_in parts.now)) parts.now es
+            → OnOk result (RenewsSome (λ c. nat_eq c number)
+            (wanted (asked parts.now) (T.table (table_in parts.now))
+            (music_on self.old.port es)) part self.old self.new) }
+    {
+        let wanted = parts.wanted(&self.pair_on(part, number));
+        out.bring(&self.states[number as usize], &wanted, channel_at(number))?;
+        self.states[number as usize] = wanted;
+        Ok(())
     }
 
     /// A channel of a part is brought to the state that its pair needs, where it was given to one.
@@ -204,10 +253,7 @@ impl Channels {
         if !self.is_given(part, number) {
             return Ok(());
         }
-        let wanted = parts.wanted(&self.pair_on(part, number));
-        out.bring(&self.states[number as usize], &wanted, channel_at(number))?;
-        self.states[number as usize] = wanted;
-        Ok(())
+        self.bring_given(parts, part, number, out)
     }
 
     /// The channels of a part are brought to the states that their pairs need.
@@ -227,10 +273,7 @@ impl Channels {
             → OnOk result (Renews (wanted (asked parts.now) (T.table (table_in parts.now))
             (music_on self.old.port es)) part self.old self.new) }
     {
-        if self.given[part.number() as usize] == 0 {
-            return Ok(());
-        }
-        for number in 0..16u8 {
+        for number in 0..self.end(part) {
             self.bring_one(parts, part, number, out)?;
         }
         Ok(())
@@ -270,10 +313,7 @@ impl Channels {
         ensures { OnOk result (out.new.messages.items ≡ out.old.messages.items
             ++ sent self.now part number value (from_up 0 16)) }
     {
-        if self.given[part.number() as usize] == 0 {
-            return Ok(());
-        }
-        for channel in 0..16u8 {
+        for channel in 0..self.end(part) {
             self.send_one(part, channel, number, value, out)?;
         }
         Ok(())
@@ -286,7 +326,7 @@ impl Channels {
         ensures none { IfNone result ((c : ℕ) → c < 16 → is_given self.now part c ≡ true
             → steps_in self.now c ≢ steps) }
     {
-        for number in 0..16u8 {
+        for number in 0..self.end(part) {
             if self.is_given(part, number) && self.steps[number as usize] == steps {
                 return Some(channel_at(number));
             }

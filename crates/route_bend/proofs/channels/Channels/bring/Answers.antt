@@ -6,7 +6,7 @@ use Rattle.lifetimes.specs.Stands.{asked, table_in}
 use Rattle.lifetimes.specs.Told.{music_on}
 use Rattle.route_bend.specs.Sent.{brought}
 use Rattle.route_bend.specs.Single.{RenewsSome}
-use Rattle.route_bend.proofs.Renewing.{renews_first, renews_next, renews_last, brought_same, brought_parts, put_next, put_last}
+use Rattle.route_bend.proofs.Renewing.{renews_first, renews_next, renews_last, brought_same, brought_none, brought_parts, put_next, put_last}
 use Rattle.route_bend.proofs.channels.Channels.bring.Goals as goal
 
 pub loop-number-init : goal.loop-number-init
@@ -25,7 +25,7 @@ loop-number-preserved g c =
     let i = c.loop-number.number in
     let old = c.args.self.now in
     let now = c.loop-number.self in
-    let low : i < 16 = omega (arith, c.loop-number-test.true) in
+    let low : i < 16 = omega (arith, c.loop-number-test.true, c.end-number-end.ensures.high) in
     record {
       sent = λ es is.
           let so = c.loop-number.invariant.states es is in
@@ -46,12 +46,15 @@ loop-number-preserved g c =
 pub returns-clause-sent : goal.returns-clause-sent
 returns-clause-sent g c = λ es is.
     let needs = wanted (asked c.args.parts.now) (g.T.Aims.table (table_in c.args.parts.now)) (music_on c.args.self.now.port es) in
-    put_last (brought needs c.args.self.now c.args.part) c.loop-number.number c.loop-number.out.messages.items
-    (c.args.out.now.messages.items ++ brought needs c.args.self.now c.args.part (from_up 0 16)) (omega (arith, c.loop-number-test.false)) refl
+    let i = c.loop-number.number in
+    put_last (brought needs c.args.self.now c.args.part) i c.loop-number.out.messages.items
+    (c.args.out.now.messages.items ++ brought needs c.args.self.now c.args.part (from_up 0 16))
+    (brought_none needs c.args.self.now c.args.part i (λ d from. c.end-number-end.ensures.none d (omega (arith, c.loop-number-test.false, from))))
     (c.loop-number.invariant.sent es is)
 
 pub returns-clause-states : goal.returns-clause-states
 returns-clause-states g c = λ es is.
     renews_last (wanted (asked c.args.parts.now) (g.T.Aims.table (table_in c.args.parts.now)) (music_on c.args.self.now.port es)) c.args.part
     c.loop-number.number
-    c.args.self.now c.loop-number.self (omega (arith, c.loop-number-test.false)) (c.loop-number.invariant.states es is)
+    c.args.self.now c.loop-number.self (λ d from. c.end-number-end.ensures.none d (omega (arith, c.loop-number-test.false, from)))
+    (c.loop-number.invariant.states es is)

@@ -16,4 +16,5 @@ loop-number-preserved g c = λ es is.
 pub returns : goal.returns
 returns g c = λ es is.
     leaves_last (is_held (asked c.args.parts.now) (g.T.Aims.table (table_in c.args.parts.now)) es) c.args.part c.loop-number.number
-    c.args.self.now c.loop-number.self (omega (arith, c.loop-number-test.false)) (c.loop-number.invariant es is)
+    c.args.self.now c.loop-number.self (λ d from. c.end-number-end.ensures.none d (omega (arith, c.loop-number-test.false, from)))
+    (c.loop-number.invariant es is)

@@ -7,7 +7,7 @@ use Rattle.receiver.specs.State.{state_of}
 use Rattle.lifetimes.specs.Stands.{asked, table_in}
 use Rattle.lifetimes.specs.Told.{music_on}
 use Rattle.route_bend.proofs.Renewing.{renewed_one, brings_one}
-use Rattle.route_bend.proofs.channels.Channels.bring_one.Goals as goal
+use Rattle.route_bend.proofs.channels.Channels.bring_given.Goals as goal
 
 pub returns-clause-sent : goal.returns-clause-sent
 returns-clause-sent g c = λ es is.
@@ -18,7 +18,7 @@ returns-clause-sent g c = λ es is.
     let long : length s.states ≡ 16 = search rules in
     brings_one (wanted (asked c.args.parts.now) (g.T.Aims.table (table_in c.args.parts.now)) (music_on s.port es)) s c.args.part n c.channel_at.result
     (state_of (get_or s.states n d)) (state_of c.wanted-wanted.result) c.args.out.now.messages.items c.bring.new.self.messages.items
-    (sym c.is_given.ensures ∙ c.if-not-is_given.false) c.channel_at.ensures
+    c.requires.given c.channel_at.ensures
     (sym (get_or-map state_of s.states n d default_state (omega (arith, long, c.requires.number))))
     (c.wanted-wanted.ensures.state es is ∙ ap needs c.pair_on.ensures.pair) c.in_ok-bring.ensures
 
@@ -30,4 +30,4 @@ returns-clause-states g c = λ es is.
     let long : length s.states ≡ 16 = search rules in
     renewed_one (wanted (asked c.args.parts.now) (g.T.Aims.table (table_in c.args.parts.now)) (music_on s.port es)) c.args.part n s
     (record s { states = set s.states n c.wanted-wanted.result }) c.wanted-wanted.result (omega (arith, long, c.requires.number)) refl refl refl refl
-    (c.wanted-wanted.ensures.state es is ∙ ap needs c.pair_on.ensures.pair) (sym c.is_given.ensures ∙ c.if-not-is_given.false)
+    (c.wanted-wanted.ensures.state es is ∙ ap needs c.pair_on.ensures.pair) c.requires.given

@@ -21,7 +21,7 @@ use Rattle.lifetimes.proofs.HeardParts.{heard_channel}
 use Rattle.lifetimes.proofs.NotesKept.{keys_low}
 use Rattle.lifetimes.proofs.TargetsApart.{alone}
 use Rattle.lifetimes.proofs.WantedKeys.{IsBent, keys_wanted, have_targets}
-use Rattle.lifetimes.proofs.port.Port.wanted.Goals as goal
+use Rattle.lifetimes.proofs.port.Port.wanted_into.Goals as goal
 
 -- the mask of all keys
 has_all : (k : ℕ) → k < 128 → has 340282366920938463463374607431768211455 k ≡ true
@@ -42,7 +42,7 @@ returns-clause-state c = λ o table es valid order faultless stands range bends 
     let bend : c.bend_value.result ≡ full = c.bend_value.ensures.value
     ∙ (ap (λ x. bend_value ((pos 8192 +ℤ x) +ℤ to_z w32 (of_z w32 c.moved-moved.result))) steps
     ∙ ap (λ x. bend_value ((pos 8192 +ℤ q) +ℤ x)) (to_z-of_z w32 c.moved-moved.result (record { sfits = c.moved-moved.type_inv }) ∙ moved)) in
-    let copied : own_of c.copy-state.result ≡ channel_at m ch = c.copy-state.ensures.own
+    let copied : own_of c.take_over.new.self ≡ channel_at m ch = c.take_over.ensures.own
     ∙ (c.state.ensures.own (heard_on o z es) stands.player ∙ heard_channel c.drums_stand_apart.ensures.music o z es ch part) in
     let own : own_of c.press_targets.new.state ≡ with (channel_at m ch) o.range full =
     c.press_targets.ensures.own ∙ (c.relax.ensures.own ∙ (c.untune.ensures.own ∙ (c.set_bend.ensures.own

@@ -8,7 +8,7 @@ use Rattle.lifetimes.specs.Told.{music_on}
 use Rattle.lifetimes.proofs.AtRest.{bent_channel, wanted_at_rest}
 use Rattle.lifetimes.proofs.Places.{of_each, here, none_here, unused}
 use Rattle.lifetimes.proofs.Unheard.{unheard_port}
-use Rattle.lifetimes.proofs.source.Source.wanted.Goals as goal
+use Rattle.lifetimes.proofs.source.Source.wanted_into.Goals as goal
 
 pub returns-then-place-self-clause-state : goal.returns-then-place-self-clause-state
 returns-then-place-self-clause-state c table es s =
@@ -23,7 +23,7 @@ returns-then-place-self-clause-state c table es s =
     let number = here (λ p. p.number) ports used p.port place y x c.place-place.ensures.place c.if-place-self.true within refl in
     let stands = of_each (PortStands o table es) ports used place y x c.if-place-self.true within refl s.ports in
     let steps : to_z w32 (of_z w32 c.args.pair.now.steps) ≡ c.args.pair.now.steps = search rules in
-    c.wanted.ensures.state o table es s.valid s.order s.faultless stands refl c.requires.bends c.requires.part
+    c.wanted_into.ensures.state o table es s.valid s.order s.faultless stands refl c.requires.bends c.requires.part
     ∙ ap (λ q. wanted o table (music_on y.number es) (pair_on y.number p.channel q)) steps
     ∙ ap (λ z. wanted o table (music_on z es) (pair_on z p.channel c.args.pair.now.steps)) number
 
@@ -40,10 +40,10 @@ returns-clause-state c table es s =
     let own : own_of c.set_bend.new.self ≡ (bent_channel default_channel o.range full).own =
     c.set_bend.ensures.own
     ∙ (ap (λ (s : Channel). let r : Channel = record s { bend = c.bend_value.result } in r) c.bend_range.ensures.own
-    ∙ (ap (λ s. (bent_channel s o.range c.bend_value.result).own) c.new-state.ensures.own
+    ∙ (ap (λ s. (bent_channel s o.range c.bend_value.result).own) c.new.ensures.own
     ∙ ap (λ b. (bent_channel default_channel o.range b).own) bend)) in
     let keys : c.set_bend.new.self.keys.items ≡ replicate 128 0 =
-    ap (λ t. t.items) c.set_bend.ensures.keys ∙ (ap (λ t. t.items) c.bend_range.ensures.keys ∙ c.new-state.ensures.keys) in
+    ap (λ t. t.items) c.set_bend.ensures.keys ∙ (ap (λ t. t.items) c.bend_range.ensures.keys ∙ c.new.ensures.keys) in
     ap (λ (s : Channel). let r : State = record { own = s; keys = c.set_bend.new.self.keys.items } in r) own
     ∙ (ap (λ (ks : List ℕ). let r : State = record { own = (bent_channel default_channel o.range full).own; keys = ks } in r) keys
     ∙ sym (ap (λ m. wanted o table m p) (unheard_port z es (unused _ _ _ s.numbers none))
