@@ -1,5 +1,5 @@
 -- What an event leaves of the pairs that are counted together, where notes don't rest.
-use Rattle.std.proofs.Common.{◌≡◌, ◌≢◌, ◌∙◌, ◌≤◌, ◌<◌, ◌++◌, ℕ, suc, Bool, true, false, nat_lt, List, [], ◌∷◌, filter, length, take, slice_index, sym, ap, subst, arith}
+use Rattle.std.proofs.Common.{◌≡◌, ◌≢◌, ◌∙◌, ◌≤◌, ◌++◌, ℕ, suc, Bool, true, false, nat_lt, List, [], ◌∷◌, filter, length, take, slice_index, sym, ap, subst, arith}
 use Rattle.std.specs.List.{AllByRecursion}
 use Rattle.std.specs.Set.{is_member}
 use Rattle.std.proofs.lemmas.Bool.{ltb-false}

@@ -1,12 +1,12 @@
 -- A target is within half a step of the lower end that it is taken from.
-use Rattle.std.proofs.Common.{◌≡◌, ◌≤◌, ◌<◌, ◌+◌, ◌*◌, ◌/◌, ◌^◌, ℕ, Bool, true, false, cond, Option, Some, None, arith, pos, negsuc, ℤ, ◌+ℤ◌, ◌-ℤ◌, ◌*ℤ◌, ◌≤ℤ◌, neg_ℤ, nat_le, refl, sym, ap, ◌∙◌, subst}
+use Rattle.std.proofs.Common.{◌≡◌, ◌≤◌, ◌+◌, ◌*◌, ◌^◌, ℕ, Bool, true, false, cond, Option, Some, None, arith, pos, negsuc, ℤ, ◌+ℤ◌, ◌-ℤ◌, ◌*ℤ◌, ◌≤ℤ◌, neg_ℤ, nat_le, refl, ap, ◌∙◌, subst}
 use Rattle.std.specs.Prelude.{option_map}
 use Rattle.std.specs.Int.{int_div_euclid}
 use Rattle.std.proofs.lemmas.Bool.{leb-true}
 use Rattle.std.proofs.lemmas.Int.{ints}
 use Rattle.retune_model.specs.Table.{Bounds, BendTarget, up_to, with_steps, nearest_tuning, nearest_key, nearest_steps, tuning_target, bend_target}
 use Rattle.key_report.specs.declared.target.Target.{Target}
-use Rattle.key_report.specs.declared.target.Target.TheVariants.{Value, Bend}
+use Rattle.key_report.specs.declared.target.Target.TheVariants.{Value}
 use Rattle.key_report.specs.Targets.{IsDevice, FitsThreeBytes, bent_to, half_step_of, target_of, told_grains}
 use Rattle.key_report.proofs.Quotient.{IsQuotient, quotient}
 

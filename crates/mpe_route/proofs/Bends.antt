@@ -1,7 +1,7 @@
 -- The bend that each member has at a position, from one position to the next.
-use Rattle.std.proofs.Common.{◌≡◌, ◌≢◌, ◌≤◌, ◌<◌, ℕ, suc, pos, ◌+ℤ◌, Bool, true, false, cond, nat_eq, List, [], ◌∷◌, map, Option, Some, None, refl, sym, ap, ◌∙◌, subst, filter, length, take, inl, inr, arith}
+use Rattle.std.proofs.Common.{◌≡◌, ◌≢◌, ◌≤◌, ◌<◌, ℕ, suc, pos, ◌+ℤ◌, Bool, true, false, cond, List, [], map, Option, Some, None, refl, sym, ap, ◌∙◌, subst, length, take, inl, inr, arith}
 use Rattle.std.specs.Set.{is_member}
-use Rattle.std.proofs.lemmas.Bool.{cases_Bool, both_ways, or_cases, or_left, or_right, eqb-true}
+use Rattle.std.proofs.lemmas.Bool.{cases_Bool, both_ways, or_left, eqb-true}
 use Rattle.mt_base.specs.declared.event.Msg.TheVariants.{NoteOn}
 use Rattle.mt_base.specs.Midi.{MidiWhat, Says, MidiEvent}
 use Rattle.midi_model.specs.Sysex.{Doing, Plays, Resets, Tunes, Nothing, doing}
@@ -15,7 +15,7 @@ use Rattle.retune_model.specs.Pairs.{Pair, is_same_pair}
 use Rattle.retune_model.specs.Rests.{begun_at, IsAimedPort}
 use Rattle.retune_model.specs.Runs.{since}
 use Rattle.retune_model.specs.PortNeed.{pairs_on}
-use Rattle.channel_model.specs.Choice.{bend_value, on_place, pair_on, last_or, last_on, member_bend}
+use Rattle.channel_model.specs.Choice.{bend_value, pair_on, last_or, last_on, member_bend}
 use Rattle.channel_model.specs.BendOutput.{pair_with, runs_on, placed_at}
 use Rattle.plan_laws.specs.Counting.{ComesAt}
 use Rattle.lifetimes.specs.Told.{port_on}
@@ -23,7 +23,7 @@ use Rattle.channel_model.specs.MpeOutput.{Zone, Zoned, member_at, master_of, zon
 use Rattle.channel_model.specs.Rows.{only, zones_on}
 use Rattle.bend_laws.specs.Follows.{Has}
 use Rattle.bend_laws.proofs.Altered.{all_default}
-use Rattle.bend_laws.proofs.Equal.{same_pair, pair_itself}
+use Rattle.bend_laws.proofs.Equal.{pair_itself}
 use Rattle.mpe_laws.specs.Positions.{zoned_at, FollowsAt}
 use Rattle.mpe_laws.specs.Sources.{on_port, HasZonePlan, IsMpe}
 use Rattle.mpe_laws.proofs.Allowed.{AreMembers, Asked, its_part, allowed_parts}

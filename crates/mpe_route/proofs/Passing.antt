@@ -1,12 +1,12 @@
 -- A source that is passed on by its plan, event by event.
-use Rattle.std.proofs.Common.{◌≡◌, ◌<◌, ◌++◌, ℕ, suc, false, cond, List, [], ◌∷◌, Option, refl, sym, ap, ◌∙◌, subst, length, take, inl, inr}
+use Rattle.std.proofs.Common.{◌≡◌, ◌<◌, ◌++◌, ℕ, suc, false, cond, List, ◌∷◌, Option, refl, sym, ap, ◌∙◌, subst, length, take, inl, inr}
 use Rattle.std.proofs.lemmas.Bool.{cases_eq, eq-eqb, ne_eqb}
 use Rattle.mt_base.specs.Midi.{MidiEvent}
 use Rattle.midi_model.specs.Sysex.{doing}
 use Rattle.midi_model.specs.Writing.{Written}
 use Rattle.retune_model.specs.Options.{Options}
 use Rattle.retune_model.specs.Faults.{Targets}
-use Rattle.retune_model.specs.Ports.{Numbered, ports_after, ports_from, all_zero}
+use Rattle.retune_model.specs.Ports.{Numbered, ports_from, all_zero}
 use Rattle.retune_model.specs.PortOutput.{kept_for, through_ports_from}
 use Rattle.retune_model.specs.Routes.{dump_next}
 use Rattle.channel_model.specs.BendOutput.{runs_on}

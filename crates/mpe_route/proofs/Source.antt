@@ -1,7 +1,7 @@
 -- A source with a plan of the program is one with zones and plans for each of its ports.
-use Rattle.std.proofs.Common.{◌≡◌, ◌&&◌, ℕ, Bool, true, false, List, Some, refl, ap, subst, length}
+use Rattle.std.proofs.Common.{◌≡◌, ℕ, List, Some, ap, subst, length}
 use Rattle.mt_base.specs.Midi.{MidiEvent}
-use Rattle.retune_model.specs.Options.{Options, Route, bends_notes, has_drums, keeps_drums, is_retuned}
+use Rattle.retune_model.specs.Options.{Options, Route, bends_notes, has_drums, keeps_drums}
 use Rattle.retune_model.specs.Faults.{Targets}
 use Rattle.retune_model.specs.Ports.{of_port, events_on}
 use Rattle.retune_model.specs.Pairs.{Pair}

@@ -9,7 +9,7 @@ use Rattle.retune_model.specs.Options.{Route, ByDump, ByLive, ByBend, ByMpe, Opt
 use Rattle.retune_model.specs.Faults.{Targets}
 use Rattle.retune_model.specs.Ports.{port_of, ports_after, all_zero, events_on}
 use Rattle.retune_model.specs.PortOutput.{kept_for, through_ports_from}
-use Rattle.retune_model.specs.Blocks.{Group, all_events}
+use Rattle.retune_model.specs.Blocks.{all_events}
 use Rattle.retune_model.specs.Blocks as blocks
 use Rattle.retune_model.specs.Dump.{dump_setup}
 use Rattle.retune_model.specs.Routes.{Live, Told, nothing_told, dump_before, dump_behind, dump_next, dump_block, change_due, live_before, live_next, live_block}

@@ -1,4 +1,4 @@
-use Rattle.std.proofs.Common.{◌∙◌, ◌+◌, ◌<◌, Bool, List, map, not, length, false, sym, rules, arith}
+use Rattle.std.proofs.Common.{◌∙◌, ◌+◌, ◌<◌, Bool, List, map, length, false, sym, rules, arith}
 use Rattle.mt_base.specs.Midi.{MidiEvent}
 use Rattle.retune_model.specs.Pairs.{Pair}
 use Rattle.std.proofs.lemmas.List.{length-set, drop-set-lt}

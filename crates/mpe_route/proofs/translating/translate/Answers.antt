@@ -8,7 +8,6 @@ use Rattle.retune_model.specs.Options.{Options, keeps_drums}
 use Rattle.retune_model.specs.SourceFaults.{fault_at}
 use Rattle.plan_laws.specs.Counting.{ComesAt}
 use Rattle.lifetimes.specs.Stands.{Stands, asked, table_in, tick_of}
-use Rattle.lifetimes.specs.Told.{TellsChange, port_on, count_begun, begun_by}
 use Rattle.lifetimes.specs.Views.{options_of}
 use Rattle.routes.specs.Putting.{IsPut}
 use Rattle.channel_model.specs.Rows.{zones_on}
@@ -19,12 +18,11 @@ use Rattle.channel_plan.proofs.Goes.{not_faulty, not_told}
 use Rattle.mpe_route.specs.Planned.{zoned}
 use Rattle.mpe_route.specs.Laws.{IsZonable}
 use Rattle.mpe_route.proofs.Kit.{Kit}
-use Rattle.mpe_route.specs.Caused.{played_if, released_by, either}
+use Rattle.mpe_route.specs.Caused.{either}
 use Rattle.mpe_route.specs.Zones.{AreSmall}
 use Rattle.mpe_route.proofs.PlannedZones.{zones_are, small}
 use Rattle.mpe_route.proofs.Source.{is_mpe}
-use Rattle.mpe_route.proofs.Block.{note_of}
-use Rattle.mpe_route.proofs.Passing.{Passing, begins, later, block_put, given_put, turn, passes}
+use Rattle.mpe_route.proofs.Passing.{Passing, begins, later, block_put, passes}
 use Rattle.mpe_route.proofs.Turns.{IsTurn, told_turn, turn_put}
 use Rattle.mpe_route.proofs.translating.translate.Goals as goal
 

@@ -1,6 +1,5 @@
-use Rattle.std.proofs.Common.{◌≡◌, [], length, refl, sym, ap, subst, ◌∙◌}
+use Rattle.std.proofs.Common.{◌≡◌, [], length, refl, sym, ap, subst}
 use Rattle.midi_model.specs.Merged.{merged}
-use Rattle.retune_model.specs.Options.{Options}
 use Rattle.retune_model.specs.SourceFaults.{IsFaultless}
 use Rattle.key_pitch.specs.Aims.{by_onset}
 use Rattle.lifetimes.specs.Stands.{Stands, asked, table_in}

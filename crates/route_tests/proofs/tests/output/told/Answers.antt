@@ -1,4 +1,4 @@
-use Rattle.std.proofs.Common.{◌≡◌, ◌≤◌, ◌<◌, ℕ, List, [], length, map, refl, sym, ap, subst, ◌∙◌, arith}
+use Rattle.std.proofs.Common.{◌≡◌, ◌≤◌, ℕ, List, [], length, map, refl, sym, ap, subst, ◌∙◌, arith}
 use Rattle.midi_model.specs.Merged.{merged}
 use Rattle.midi_model.specs.Writing.{Written, written}
 use Rattle.event_stream.specs.Distributed.{distributed}
