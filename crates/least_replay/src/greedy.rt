@@ -1,6 +1,9 @@
 //! A cover in which each run costs least where it stands, but that each start counts some more.
-ghost use Rattle.std.specs.Prelude.{◌≡◌, ◌≤◌, ◌<◌, length, IfSome};
+ghost use Rattle.std.specs.Prelude.{◌≡◌, ◌≤◌, ◌<◌, length, IfOk, IfSome};
+ghost use Rattle.least_replay.specs.Cover.{IsLeast};
+ghost use Rattle.least_replay.specs.CostView.{table_of, IsConfirmed};
 
+use crate::confirming::confirm;
 use crate::costs::Costs;
 use crate::cover::Cover;
 use mt_base::Memory;
@@ -93,8 +96,8 @@ fn columns(alloc: Global, costs: &Costs, last: usize, extra: u16) -> Result<Vec<
 /// Puts each run where it costs least, a start counted as cheaper by what the last run has there:
 /// behind the last run that is free, or else at a start. None where that can't be for a run. Where
 /// all runs cost the same behind others, and the same at a start, this gives a cover, since a run
-/// that one may follow stays so for each later one.
-pub fn put_cheaply(alloc: Global, costs: &Costs) -> Result<Option<Cover>, Memory> {
+/// that one may follow stays so for each later one. What is answered is not yet known to be a cover.
+fn put_cheaply(alloc: Global, costs: &Costs) -> Result<Option<Cover>, Memory> {
     let extra = extra_of(costs);
     let mut taken = vec![in alloc; false; costs.runs() as usize]?;
     let mut before = Vec::new(alloc);
@@ -127,4 +130,19 @@ pub fn put_cheaply(alloc: Global, costs: &Costs) -> Result<Option<Cover>, Memory
         u,
         v,
     }))
+}
+
+/// A cover of runs that are put cheaply, where that one costs least and its certificate shows it.
+/// None says nothing of other covers.
+pub fn cheap_cover(alloc: Global, costs: &Costs) -> Result<Option<Cover>, Memory>
+    ensures confirmed { IfOk result (λ found. IfSome found (IsConfirmed costs.now)) }
+    ensures least { IfOk result
+        (λ found. IfSome found (λ cover. IsLeast (table_of costs.now) cover.price)) }
+{
+    if let Some(cover) = put_cheaply(alloc, costs)? {
+        if confirm(costs, &cover) {
+            return Ok(Some(cover));
+        }
+    }
+    Ok(None)
 }

@@ -4,10 +4,10 @@ ghost use Rattle.least_replay.specs.Columns.{before_of};
 ghost use Rattle.least_replay.specs.Cover.{IsLeast};
 ghost use Rattle.least_replay.specs.CostView.{table_of, IsConfirmed};
 
-use crate::confirming::{confirm, price_of};
+use crate::confirming::price_of;
 use crate::costs::Costs;
 use crate::cover::Cover;
-use crate::greedy::put_cheaply;
+use crate::greedy::cheap_cover;
 use crate::solver::solve;
 use mt_base::Memory;
 use std::alloc::Global;
@@ -71,10 +71,8 @@ pub fn least_cover(alloc: Global, costs: &Costs) -> Result<Cover, Memory>
     ensures confirmed { IfOk result (λ cover. IsConfirmed costs.now cover) }
     ensures least { IfOk result (λ cover. IsLeast (table_of costs.now) cover.price) }
 {
-    if let Some(cover) = put_cheaply(alloc, costs)? {
-        if confirm(costs, &cover) {
-            return Ok(cover);
-        }
+    match cheap_cover(alloc, costs)? {
+        Some(cover) => Ok(cover),
+        None => solved_cover(alloc, costs),
     }
-    solved_cover(alloc, costs)
 }
