@@ -478,6 +478,22 @@ leads out.mid other
 leads other out.mid
 has other out.mid
 
+begin as many links as the system follows, and one more
+number=1
+while [ $number -le 40 ]; do
+    ln -s $((number + 1)) $number
+    number=$((number + 1))
+done
+retune e12.scl 1 in.mid
+is_retuned 41
+leads 1 2
+leads 40 41
+rm 41 && ln -s 1 0
+retune e12.scl 0 in.mid
+cannot_store
+[ ! -e 41 ] || fail "a file was made"
+leads 40 41
+
 begin more links than the system follows
 number=0
 while [ $number -lt 100 ]; do

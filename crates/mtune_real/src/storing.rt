@@ -61,10 +61,12 @@ fn behind_link(rt: &HostRuntime, name: Path<'_>) -> io::Result<Option<PathBuf>> 
     }
 }
 
-/// Writes a file where none is, behind as many links as lead there.
+/// Writes a file where none is, behind at most `LINKS` links. False where there are more, or where they
+/// lead round in a loop; nothing is written then.
 fn write_first(rt: &HostRuntime, name: &str, content: &[u8]) -> io::Result<bool> {
     let mut target = Path::new(name).to_path_buf(rt.alloc())?;
-    for _ in 0..LINKS {
+    // The last round looks at what the last link names.
+    for _ in 0..LINKS + 1 {
         match behind_link(rt, target.as_path())? {
             Some(next) => target = next,
             None => return replace(rt, target.as_path(), None, content),
