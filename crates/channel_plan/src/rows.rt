@@ -28,9 +28,7 @@ pub(crate) fn channels_of(mask: u16) -> Row
     let mut row = ArrayVec::new();
     for number in 0..16u8 {
         if allows(mask, number) {
-            if let Some(channel) = Channel::new(number) {
-                row.push(channel);
-            }
+            row.push(Channel::at(number));
         }
     }
     row
@@ -44,9 +42,7 @@ pub(crate) fn allowed_row(allowed: u16, options: &Options) -> Row
     let mut row = ArrayVec::new();
     for number in 0..16u8 {
         if allows(allowed, number) && !(options.keep_drums && number == 9) {
-            if let Some(channel) = Channel::new(number) {
-                row.push(channel);
-            }
+            row.push(Channel::at(number));
         }
     }
     row
@@ -59,10 +55,7 @@ fn member(upper: bool, place: u8) -> Channel
     ensures { (zone : ZoneOf) → zone.upper ≡ upper → result ≡ member_at zone place }
 {
     let number = if upper { 14 - place } else { 1 + place };
-    match Channel::new(number) {
-        Some(channel) => channel,
-        None => Channel::default(),
-    }
+    Channel::at(number)
 }
 
 /// The members of a zone of at most 15, from the master outward.

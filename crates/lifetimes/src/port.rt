@@ -120,7 +120,7 @@ impl Port {
             self.old self.new }
     {
         for place in 0..16 {
-            let channel = channel_at(place);
+            let channel = Channel::at(place);
             self.parts[place as usize].end_all(
                 ends.keys[place as usize],
                 channel,
@@ -274,16 +274,5 @@ fn own_channel(what: &What<'_>) -> Option<Channel>
     match *what {
         What::Message(ref message) if !is_wide(message) => Some(message.channel()),
         _ => None,
-    }
-}
-
-/// The channel of this number, 0 to 15.
-fn channel_at(number: u8) -> Channel
-    requires { number < 16 }
-    ensures { result ≡ number }
-{
-    match Channel::new(number) {
-        Some(channel) => channel,
-        None => Channel::default(),
     }
 }

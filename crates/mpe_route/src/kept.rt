@@ -60,7 +60,7 @@ impl Kept {
         ensures begun { begun_in self.new ≡ begun_in self.old }
     {
         for number in 0..16u8 {
-            self.set_bend(port, Channel::new(number).unwrap(), 8192);
+            self.set_bend(port, Channel::at(number), 8192);
         }
     }
 

@@ -10,7 +10,7 @@ pub(crate) fn master(zone: &Zone) -> Channel
     ensures { result ≡ master_of (zone_from zone.now) }
 {
     let number = if zone.upper { 15 } else { 0 };
-    Channel::new(number).unwrap()
+    Channel::at(number)
 }
 
 /// A member of a zone, counted from the master outward, from 0 to 14.
@@ -19,7 +19,7 @@ pub(crate) fn member(zone: &Zone, place: u8) -> Channel
     ensures { result ≡ member_at (zone_from zone.now) place }
 {
     let number = if zone.upper { 14 - place } else { 1 + place };
-    Channel::new(number).unwrap()
+    Channel::at(number)
 }
 
 /// The zone of a part, where it has one.

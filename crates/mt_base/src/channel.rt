@@ -42,6 +42,14 @@ impl Channel {
         }
     }
 
+    /// The channel of this number, 0 to 15.
+    pub fn at(number: u8) -> Channel
+        requires { number < 16 }
+        ensures { result ≡ number }
+    {
+        Channel { number }
+    }
+
     /// Its number, 0 to 15.
     pub fn number(self) -> u8
         ensures value { result ≡ self }

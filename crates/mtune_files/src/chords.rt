@@ -30,10 +30,7 @@ const VELOCITY: u8 = 64;
 fn channel_of(chord: u32) -> Channel
     ensures { result ≡ chord_channel chord }
 {
-    match Channel::new((chord % 8) as u8) {
-        Some(channel) => channel,
-        None => Channel::default(),
-    }
+    Channel::at((chord % 8) as u8)
 }
 
 /// The lowest key of a chord.

@@ -13,7 +13,7 @@ ghost use Rattle.receiver.specs.Stands.{HasRoom, states_of, selected_in, set_up_
 
 use crate::player::Player;
 use crate::role::Selected;
-use crate::strokes::{channel_at, channel_number};
+use crate::strokes::channel_number;
 use mt_base::{Channel, Msg};
 
 // What a message does to the channels and the zones, before the notes end that nothing holds.
@@ -61,7 +61,7 @@ impl Player {
         ensures rest { SameBesideStates self.old self.new }
     {
         for number in 0..16u8 {
-            self.give_range(master, channel_at(number));
+            self.give_range(master, Channel::at(number));
         }
     }
 

@@ -9,7 +9,6 @@ ghost use Rattle.receiver.specs.Stands.{states_of, selected_in, set_up_of};
 use crate::note::Struck;
 use crate::player::Player;
 use crate::role::{Purpose, purpose_of};
-use crate::strokes::channel_at;
 use crate::turn::Turn;
 use mt_base::Channel;
 
@@ -106,7 +105,7 @@ impl Player {
         ensures rest { SameSetUp self.old self.new }
     {
         for number in 0..16u8 {
-            self.turn_one(turn, channel, channel_at(number), tick);
+            self.turn_one(turn, channel, Channel::at(number), tick);
         }
     }
 
@@ -172,7 +171,7 @@ impl Player {
         ensures rest { SameSetUp self.old self.new }
     {
         for number in 0..16u8 {
-            self.settle_one(channel_at(number));
+            self.settle_one(Channel::at(number));
         }
     }
 }

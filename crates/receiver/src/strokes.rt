@@ -5,7 +5,7 @@ ghost use Rattle.midi_model.specs.Sysex.{doing};
 ghost use Rattle.receiver.specs.Notes.{has};
 ghost use Rattle.receiver.specs.Turns.{strikes, strikes_by};
 
-use mt_base::{Channel, Msg, What};
+use mt_base::{Msg, What};
 
 /// The key that a message strikes, as a bit, where it is a note on of the channel and its velocity
 /// isn't 0.
@@ -51,15 +51,4 @@ pub(crate) fn channel_number(message: &Msg) -> u8
     ensures bound { result < 16 }
 {
     message.channel().number()
-}
-
-/// The channel of this number, 0 to 15.
-pub(crate) fn channel_at(number: u8) -> Channel
-    requires { number < 16 }
-    ensures { result ≡ number }
-{
-    match Channel::new(number) {
-        Some(channel) => channel,
-        None => Channel::default(),
-    }
 }

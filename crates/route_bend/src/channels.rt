@@ -32,17 +32,6 @@ pub(crate) struct Channels {
     pub states: [ChannelState; 16],
 }
 
-/// The channel of this number, 0 to 15.
-fn channel_at(number: u8) -> Channel
-    requires { number < 16 }
-    ensures { result ≡ number }
-{
-    match Channel::new(number) {
-        Some(channel) => channel,
-        None => Channel::default(),
-    }
-}
-
 /// Sixteen channels as they are at the start.
 fn default_states() -> [ChannelState; 16]
     ensures { map state_of result ≡ replicate 16 default_state }
@@ -225,7 +214,7 @@ impl Channels {
             (music_on self.old.port es)) part self.old self.new) }
     {
         let wanted = parts.wanted(&self.pair_on(part, number));
-        out.bring(&self.states[number as usize], &wanted, channel_at(number))?;
+        out.bring(&self.states[number as usize], &wanted, Channel::at(number))?;
         self.states[number as usize] = wanted;
         Ok(())
     }
@@ -296,7 +285,7 @@ impl Channels {
             return Ok(());
         }
         out.put(Msg::Control {
-            channel: channel_at(channel),
+            channel: Channel::at(channel),
             number,
             value,
         })
@@ -328,7 +317,7 @@ impl Channels {
     {
         for number in 0..self.end(part) {
             if self.is_given(part, number) && self.steps[number as usize] == steps {
-                return Some(channel_at(number));
+                return Some(Channel::at(number));
             }
         }
         None

@@ -103,7 +103,7 @@ fn push_selection_if(out: &mut ArrayVec<Msg, 80>, channels: u16, number: u8, pro
         ≡ out.old.items ++ selection_if (has channels number) number program }
 {
     if channels & (1 << number) != 0 {
-        push_selection(out, Channel::new(number).unwrap(), program);
+        push_selection(out, Channel::at(number), program);
     }
 }
 

@@ -25,10 +25,7 @@ fn channel(status: u8, first: u8) -> Channel
     requires high { status < first + 16 }
     ensures { result ≡ status - first }
 {
-    match Channel::new(status - first) {
-        Some(channel) => channel,
-        None => Channel::default(),
-    }
+    Channel::at(status - first)
 }
 
 /// What is read in at most so many bytes after the next one, where the bytes before say a number.

@@ -1,5 +1,4 @@
-use Rattle.std.proofs.Common.{◌≡◌, ◌∙◌, ◌++◌, ℕ, Bool, true, false, sym, ap, subst}
-use Rattle.std.specs.Prelude.{IfSome}
+use Rattle.std.proofs.Common.{◌≡◌, ◌∙◌, ◌++◌, ℕ, Bool, true, false, sym, ap}
 use Rattle.std.proofs.lemmas.List.{append-nil}
 use Rattle.midi_model.specs.TuningBytes.{select_of}
 use Rattle.receiver.specs.Notes.{has}
@@ -9,7 +8,7 @@ use Rattle.routes.proofs.device.push_selection_if.Goals as goal
 
 pub returns-then-channels-number-ne0 : goal.returns-then-channels-number-ne0
 returns-then-channels-number-ne0 c =
-    let channel : c.unwrap.result ≡ c.args.number = subst (λ o. IfSome o (λ c'. c' ≡ c.args.number)) c.unwrap.ensures c.new.ensures.some in
+    let channel : c.at.result ≡ c.args.number = c.at.ensures in
     let there : has c.args.channels c.args.number ≡ true = is_there 16 c.args.channels c.args.number c.requires.number c.if-channels-number-ne0.true in
     c.push_selection.ensures
     ∙ ap (λ (k : ℕ). c.args.out.now.items ++ select_of k c.args.program) channel

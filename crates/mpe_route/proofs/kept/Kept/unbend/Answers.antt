@@ -1,5 +1,4 @@
-use Rattle.std.proofs.Common.{◌≡◌, ◌∙◌, ◌&&◌, cond, nat_eq, refl, ap, subst, arith}
-use Rattle.std.specs.Prelude.{IfSome}
+use Rattle.std.proofs.Common.{◌≡◌, ◌∙◌, ◌&&◌, cond, nat_eq, refl, ap, arith}
 use Rattle.mpe_route.specs.Kept.{bend_in, with_bend}
 use Rattle.mpe_route.proofs.Unbent.{unbent_first, unbent_next, unbent_last}
 use Rattle.mpe_route.proofs.kept.Kept.unbend.Goals as goal
@@ -9,8 +8,7 @@ loop-number-init c = record { bends = λ z d byte low. unbent_first c.args.port 
 
 pub loop-number-preserved : goal.loop-number-preserved
 loop-number-preserved c =
-    let channel : c.unwrap.result ≡ c.loop-number.number =
-    subst (λ o. IfSome o (λ c'. c' ≡ c.loop-number.number)) c.unwrap.ensures c.new.ensures.some in
+    let channel : c.at.result ≡ c.loop-number.number = c.at.ensures in
     record {
       bends = λ z d byte low.
           c.set_bend.ensures.bends z d byte low

@@ -16,7 +16,7 @@ loop-number-preserved c =
     let m = c.args.master in
     let at = c.loop-number.invariant in
     let ranged : states_of c.give_range.new.self ≡ ranged_at (zones_in now.zones) m i (states_of now) =
-    c.give_range.ensures.states ∙ ap (λ j. ranged_at (zones_in now.zones) m j (states_of now)) c.channel_at.ensures in
+    c.give_range.ensures.states ∙ ap (λ j. ranged_at (zones_in now.zones) m j (states_of now)) c.at.ensures in
     let to : ℕ → Channel = λ e. bend_range_at (zones_in old.zones) m e (get_or (states_of old) e default_channel) in
     let low : i < length (states_of now) = omega (arith, at.many, c.loop-number-test.true) in
     record {

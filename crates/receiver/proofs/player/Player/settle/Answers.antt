@@ -15,7 +15,7 @@ loop-number-preserved c = record {
       let now = c.loop-number.self in
       let i = c.loop-number.number in
       let settled : SlotsBecome (only_on i (settled_by (set_up_of now) t)) now c.settle_one.new.self =
-      subst (λ j. SlotsBecome (only_on j (settled_by (set_up_of now) t)) now c.settle_one.new.self) c.channel_at.ensures (c.settle_one.ensures.notes t) in
+      subst (λ j. SlotsBecome (only_on j (settled_by (set_up_of now) t)) now c.settle_one.new.self) c.at.ensures (c.settle_one.ensures.notes t) in
       let f : Slot → Slot = kept (settle_note (states_of old) (zones_in old.zones) t) in
       next i (λ e. slot_in old.channels e k) (λ e. slot_in now.channels e k) (λ e. slot c.settle_one.new.self e k) (λ e. f (slot_in old.channels e k)) f
       (λ e el. c.loop-number.invariant.notes t e k el kl)

@@ -14,7 +14,7 @@ loop-number-preserved c = record {
       let f : Slot → Slot = kept (turn_of c.args.turn c.args.tick (zones_in old.zones) c.args.channel) in
       let same = c.loop-number.invariant.rest.zones in
       let turned : SlotsBecome (only_on c.loop-number.number (turn_of c.args.turn c.args.tick (zones_in c.loop-number.self.zones) c.args.channel)) c.loop-number.self c.turn_one.new.self =
-      subst (λ j. SlotsBecome (only_on j (turn_of c.args.turn c.args.tick (zones_in c.loop-number.self.zones) c.args.channel)) c.loop-number.self c.turn_one.new.self) c.channel_at.ensures c.turn_one.ensures.notes in
+      subst (λ j. SlotsBecome (only_on j (turn_of c.args.turn c.args.tick (zones_in c.loop-number.self.zones) c.args.channel)) c.loop-number.self c.turn_one.new.self) c.at.ensures c.turn_one.ensures.notes in
       next c.loop-number.number (λ e. slot_in old.channels e k) (λ e. slot_in c.loop-number.self.channels e k) (λ e. slot c.turn_one.new.self e k) (λ e. f (slot_in old.channels e k)) f
       (λ e el. c.loop-number.invariant.notes e k el kl)
       (λ e el. turned e k el kl ∙ ap (λ z. cond (nat_eq e c.loop-number.number) (kept (turn_of c.args.turn c.args.tick (zones_in z) c.args.channel) (slot_in c.loop-number.self.channels e k)) (slot_in c.loop-number.self.channels e k)) same)

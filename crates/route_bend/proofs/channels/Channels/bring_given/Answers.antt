@@ -16,9 +16,9 @@ returns-clause-sent g c = λ es is.
     let d = c.index-self-number.result in
     let needs : Pair → State = λ p. wanted (asked c.args.parts.now) (g.T.Aims.table (table_in c.args.parts.now)) (music_on p.part.port es) p in
     let long : length s.states ≡ 16 = search rules in
-    brings_one (wanted (asked c.args.parts.now) (g.T.Aims.table (table_in c.args.parts.now)) (music_on s.port es)) s c.args.part n c.channel_at.result
+    brings_one (wanted (asked c.args.parts.now) (g.T.Aims.table (table_in c.args.parts.now)) (music_on s.port es)) s c.args.part n c.at.result
     (state_of (get_or s.states n d)) (state_of c.wanted-wanted.result) c.args.out.now.messages.items c.bring.new.self.messages.items
-    c.requires.given c.channel_at.ensures
+    c.requires.given c.at.ensures
     (sym (get_or-map state_of s.states n d default_state (omega (arith, long, c.requires.number))))
     (c.wanted-wanted.ensures.state es is ∙ ap needs c.pair_on.ensures.pair) c.in_ok-bring.ensures
 
