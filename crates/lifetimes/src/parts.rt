@@ -25,6 +25,8 @@ impl<T: Aims> Parts<T> {
     ghost use Rattle.lifetimes.specs.Told.{pair_sounds, pair_holds, is_held, is_sounding, sounding_on, aim_in, strike_of};
 
     /// Parts before any event. The range is 1 to 96, and the program at most 127.
+    // A source stands on its stack, besides the one that it answers.
+    #[inline(never)]
     pub fn new(alloc: Global, table: T, options: Options) -> Parts<T>
         requires range_some { 1 ≤ options.range }
         requires range_high { options.range ≤ 96 }
@@ -42,6 +44,8 @@ impl<T: Aims> Parts<T> {
     }
 
     /// All is as before any event, with the same targets and options.
+    // The new source stands on its stack.
+    #[inline(never)]
     pub fn restart(&mut self)
         ensures stands { Stands (T.table (table_in self.new)) self.new [] }
         ensures table { table_in self.new ≡ table_in self.old }

@@ -41,6 +41,8 @@ impl Source {
     ghost use Rattle.lifetimes.specs.Told.{pair_sounds, pair_holds, is_held, is_sounding, sounding_on};
 
     /// A source before any event.
+    // Four ports stand on its stack twice: a caller into which it were inlined would keep that room to its end.
+    #[inline(never)]
     pub fn new(alloc: Global, options: Options) -> Source
         requires range_some { 1 ≤ options.range }
         requires range_high { options.range ≤ 96 }
