@@ -1,7 +1,7 @@
 ghost use Rattle.std.specs.Prelude.{◌≡◌, ◌≤◌, ◌<◌, ℕ, suc, List, [], length, map, filter, true, false, IsTrue, OnOk, slice_index, ◌||◌};
 ghost use Rattle.mt_base.specs.Midi.{MidiEvent};
-ghost use Rattle.retune_model.specs.Pairs.{Pair as PairOf, is_before, is_earlier_part, is_same_pair, with_pair};
-ghost use Rattle.lifetimes.specs.Views.{part_of, pair_of};
+ghost use Rattle.retune_model.specs.Pairs.{Pair as PairOf, is_before, is_same_pair, with_pair};
+ghost use Rattle.lifetimes.specs.Views.{pair_of};
 ghost use Rattle.retune_model.specs.Options.{bends_notes};
 ghost use Rattle.lifetimes.specs.Stands.{Stands, asked, table_in};
 ghost use Rattle.lifetimes.specs.Told.{is_held};
@@ -12,7 +12,7 @@ ghost use Rattle.std.specs.Set.{is_member};
 use crate::fault::Instant;
 use key_pitch::Aims;
 use lifetimes::Parts;
-use mt_base::{Memory, Pair, Part};
+use mt_base::{Memory, Pair};
 use receiver::Ends;
 use std::alloc::Global;
 
@@ -30,19 +30,13 @@ pub(crate) struct Counter {
     pub witness: Vec<Pair>,
 }
 
-/// The order of parts: by port, then by channel.
-fn is_earlier(part: &Part, other: &Part) -> bool
-    ensures { result ≡ is_earlier_part (part_of part.now) (part_of other.now) }
-{
-    part.port < other.port
-        || part.port == other.port && part.channel.number() < other.channel.number()
-}
-
-/// The order of pairs: by part, then by steps.
+/// The order of pairs: by part, which is by port and then by channel, then by steps.
 fn comes_before(pair: &Pair, other: &Pair) -> bool
     ensures { result ≡ is_before (pair_of pair.now) (pair_of other.now) }
 {
-    is_earlier(&pair.part, &other.part) || pair.part == other.part && pair.steps < other.steps
+    let (part, other_part) = (pair.part, other.part);
+    (part.port, part.channel.number(), pair.steps)
+        < (other_part.port, other_part.channel.number(), other.steps)
 }
 
 /// Whether a pair stands before another in a list, or is it.

@@ -1,6 +1,6 @@
 use arrayvec::ArrayVec;
-use lifetimes::{SourceFault, StepFault};
-use mt_base::{Memory, Pair};
+use lifetimes::SourceFault;
+use mt_base::Pair;
 
 /// A position of a source, with its tick: that of the event before it, 0 at the start.
 #[derive(Clone, Copy, Debug, PartialEq, Eq)]
@@ -33,19 +33,4 @@ pub enum PlanFault {
     TooManyParts { port: u8, parts: u8 },
     TooManyChannels(TooMany),
     Memory,
-}
-
-impl From<StepFault> for PlanFault {
-    fn from(fault: StepFault) -> PlanFault {
-        match fault {
-            StepFault::Source(fault) => PlanFault::Source(fault),
-            StepFault::Memory => PlanFault::Memory,
-        }
-    }
-}
-
-impl From<Memory> for PlanFault {
-    fn from(_memory: Memory) -> PlanFault {
-        PlanFault::Memory
-    }
 }
