@@ -5,17 +5,7 @@ use crate::outcome::Fault;
 use itoa::Buffer;
 use lifetimes::{SourceFault, SourceKind};
 use mtune_files::Which;
-use plan_report::{Line, too_many_line, too_many_parts_line};
-
-/// Appends a text and a number.
-fn push(line: &mut Line, text: &str, number: u32)
-    requires { length line.old.bytes + length text.now ≤ 118 }
-    ensures text { line.new.bytes ≡ line.old.bytes ++ text.now ++ decimal number }
-    ensures short { length line.new.bytes ≤ length line.old.bytes + length text.now + 10 }
-{
-    line.push_str(text);
-    line.push_str(Buffer::new().format(number));
-}
+use plan_report::{Line, push_number, too_many_line, too_many_parts_line};
 
 /// A line of a text and a number.
 pub fn one(text: &str, number: u32) -> Line
@@ -23,7 +13,7 @@ pub fn one(text: &str, number: u32) -> Line
     ensures { result.bytes ≡ text.now ++ decimal number ++ codes "\n" }
 {
     let mut line = Line::new();
-    push(&mut line, text, number);
+    push_number(&mut line, text, number);
     line.push_str("\n");
     line
 }
@@ -34,8 +24,8 @@ fn of_kind(text: &str, number: u32, kind: u8) -> Line
     ensures { result.bytes ≡ text.now ++ decimal number ++ codes " kind " ++ decimal kind ++ codes "\n" }
 {
     let mut line = Line::new();
-    push(&mut line, text, number);
-    push(&mut line, " kind ", u32::from(kind));
+    push_number(&mut line, text, number);
+    push_number(&mut line, " kind ", u32::from(kind));
     line.push_str("\n");
     line
 }
@@ -63,7 +53,7 @@ fn around(text: &str, number: u32, rest: &str) -> Line
     ensures { result.bytes ≡ text.now ++ decimal number ++ rest.now }
 {
     let mut line = Line::new();
-    push(&mut line, text, number);
+    push_number(&mut line, text, number);
     line.push_str(rest);
     line
 }
@@ -118,10 +108,10 @@ fn about_event(fault: &SourceFault) -> Line
     ensures { result.bytes ≡ source_line fault.now }
 {
     let mut line = Line::new();
-    push(&mut line, "mtune: input event ", fault.position);
-    push(&mut line, " tick ", fault.tick);
-    push(&mut line, " track ", u32::from(fault.track));
-    push(&mut line, " kind ", kind_number(fault.kind));
+    push_number(&mut line, "mtune: input event ", fault.position);
+    push_number(&mut line, " tick ", fault.tick);
+    push_number(&mut line, " track ", u32::from(fault.track));
+    push_number(&mut line, " kind ", kind_number(fault.kind));
     push_bend(&mut line, fault.kind);
     line.push_str("\n");
     line

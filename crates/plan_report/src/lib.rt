@@ -15,6 +15,6 @@ mod zones;
 pub use channels::push_channels;
 pub use faults::{too_many_line, too_many_parts_line};
 pub use laws::{fault_examples, plan_report_laws, report_examples};
-pub use line::Line;
+pub use line::{Line, push_number};
 pub use needs::push_need;
 pub use zones::push_zones;

@@ -9,8 +9,8 @@ use mt_base::Memory;
 /// Room for each line of a plan, and of the fault of a source that gets none.
 pub type Line = ArrayString<128>;
 
-/// Appends a text and a number.
-pub(crate) fn push_number(line: &mut Line, text: &str, number: u32)
+/// Appends a text and a number. There is to be room for the text and ten digits.
+pub fn push_number(line: &mut Line, text: &str, number: u32)
     requires { length line.old.bytes + length text.now ≤ 118 }
     ensures text { line.new.bytes ≡ line.old.bytes ++ text.now ++ decimal number }
     ensures short { length line.new.bytes ≤ length line.old.bytes + length text.now + 10 }
