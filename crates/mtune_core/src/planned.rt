@@ -93,7 +93,7 @@ fn put_events(
     let mut parts = Parts::new(alloc, table, command.options);
     let mut events = Merge::new(smf);
     match command.options.route {
-        Route::Dump | Route::Live => Ok(()),
+        Route::Dump | Route::Live => unreachable!(),
         Route::Bend => route_bend::translate(alloc, &mut events, &mut parts, plan, out),
         Route::Mpe => mpe_route::translate(&mut events, &mut parts, plan, out),
     }

@@ -131,15 +131,21 @@ fn names_that_nothing_is_held_under(rt: HostRuntime) -> Result<(), Fail> {
     Ok(())
 }
 
+// The calls load the scale and the input, store and say.
 #[test]
-fn one_note_is_kept_where_its_report_fails(rt: HostRuntime) -> Result<(), Fail> {
+fn failing_store_leaves_nothing(rt: HostRuntime) -> Result<(), Fail> {
     let alloc = rt.alloc();
-    // the calls load the scale and the input, store and say
     let mut files = one_note_files(alloc, E12, &ONE_NOTE)?;
     files.fail(3)?;
     let outcome = run(alloc, WORDS.as_slice(), &mut files);
     let said = "mtune: cannot store\n";
     check(&rt, &files, outcome, Some(Fault::Store), 3, said, Some(b""));
+    Ok(())
+}
+
+#[test]
+fn output_is_kept_where_its_report_fails(rt: HostRuntime) -> Result<(), Fail> {
+    let alloc = rt.alloc();
     let mut files = one_note_files(alloc, E12, &ONE_NOTE)?;
     files.fail(4)?;
     let outcome = run(alloc, WORDS.as_slice(), &mut files);

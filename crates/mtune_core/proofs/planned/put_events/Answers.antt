@@ -1,8 +1,7 @@
-use Rattle.std.proofs.Common.{◌≡◌, ◌≤◌, [], length, refl, ap, sym, subst, ◌∙◌, inl, inr, arith}
+use Rattle.std.proofs.Common.{◌≡◌, ◌≤◌, [], length, true, false, refl, ap, sym, subst, ◌∙◌, inl, inr, arith}
 use Rattle.midi_model.specs.Merged.{merged}
 use Rattle.key_pitch.specs.Aims.{by_onset}
-use Rattle.event_stream.specs.Distributed.{StandFor}
-use Rattle.retune_model.specs.Options.{Options, ByBend, ByMpe}
+use Rattle.retune_model.specs.Options.{Options, ByBend, ByMpe, bends_notes}
 use Rattle.retune_model.specs.Options.{Route as RouteOf}
 use Rattle.retune_model.specs.SourceFaults.{IsFaultless}
 use Rattle.lifetimes.specs.declared.options.Route.{Route}
@@ -20,17 +19,13 @@ use Rattle.mtune_core.proofs.ByPlan.{are_asked, given_back, may_be_put, on_ok, p
 use Rattle.mtune_core.proofs.Put.{few_tracks}
 use Rattle.mtune_core.proofs.planned.put_events.Goals as goal
 
-pub returns-in-Dump : goal.returns-in-Dump
-returns-in-Dump c =
-    let k = view_command c.args.command.now in
-    let P : Route → Type 0 = λ r. StandFor c.args.out.now (length c.args.smf.now.tracks)
-    (planned_events (route_of r) k.options (allowed_by k) (by_onset c.args.table.now) c.args.plan.now (merged c.args.smf.now)) in
-    record {
-      put = elim c.in-Dump.is [
-        | inl s ↦ subst P (sym s) c.requires.none
-        | inr s ↦ subst P (sym s) c.requires.none
-      ];
-    }
+pub unreachable-requires : goal.unreachable-requires
+unreachable-requires c =
+    let bends : Route → Type 0 = λ r. bends_notes (route_of r) ≡ true in
+    elim c.in-Dump.is [
+      | inl s ↦ (let no : false ≡ true = subst bends s c.requires.bends in cc)
+      | inr s ↦ (let no : false ≡ true = subst bends s c.requires.bends in cc)
+    ]
 
 pub translate-requires : goal.translate-requires
 translate-requires c κs =
