@@ -30,16 +30,19 @@ pub enum MapChoice<'a> {
 /// What the words of the command ask for.
 #[derive(Clone, Copy, Debug, PartialEq, Eq)]
 pub struct Command<'a> {
+    /// The name of the scale's text.
     pub scale: &'a str,
     pub mapping: MapChoice<'a>,
     pub options: Options,
     /// The channels that the bend route may use: bit 0 is the first one.
     pub allowed: u16,
-    /// How many notes a sample has that is taken in place of the input.
+    /// How many chords a sample has that is taken in place of the input, 1 to 100,000.
     pub sample: Option<u32>,
     /// Whether the error of each note is reported.
     pub audit: bool,
+    /// The name that the output gets.
     pub out: &'a str,
+    /// The name of the input. It isn't loaded where there is a sample.
     pub input: &'a str,
 }
 
@@ -210,7 +213,7 @@ fn options(matches: &ArgMatches<'_>, route: Route, keep_drums: bool) -> Options
     }
 }
 
-/// How many notes a sample has, where one is asked for.
+/// How many chords a sample has, where one is asked for.
 fn sample(matches: &ArgMatches<'_>) -> Option<u32>
     ensures { result
         ≡ option_map (number_of 1 100000) (first_of (codes "sample") (rows_in matches.now)) }

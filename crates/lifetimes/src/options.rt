@@ -43,7 +43,7 @@ impl Route {
         }
     }
 
-    /// Whether a pair has a channel of its own.
+    /// Whether this is the bend route, on which a pair has a channel of its port, and not of a zone.
     pub(crate) fn is_bend(self) -> bool
         ensures { result ≡ is_bend (route_of self) }
     {

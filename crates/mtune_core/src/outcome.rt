@@ -19,18 +19,26 @@ pub struct Outcome {
     pub fault: Option<Fault>,
 }
 
-/// Why nothing was retuned; after `Say`, why nothing was reported.
+/// Why a call ended before all of its report was said. Nothing was stored before `Store`; at `Store` it isn't
+/// known what the name of the output holds; at `Say` the output is stored.
 #[derive(Debug, Drop)]
 pub enum Fault {
     /// The words aren't those of the command: 1 where they aren't taken, 2 where a text isn't one of those
     /// listed, 3 where an option doesn't go with the rest.
     Usage { kind: u8 },
+    /// A content could not be loaded.
     Load { which: Which },
+    /// A content has more bytes than its limit.
     TooLong { which: Which },
+    /// The first fault of the scale's text, at a line, counted from 1.
     Scl { line: u32, kind: SclKind },
+    /// The first fault of the mapping's text, at a line, counted from 1.
     Kbm { line: u32, kind: KbmKind },
+    /// The mapping gives no note of the scale to its reference key.
     ReferenceUnmapped { key: u8 },
+    /// The pitch of a key, the least such one, is the product of more than 1,700 ratios.
     TooManyPeriods { key: u8 },
+    /// The first fault of the input's bytes, at an offset, counted from 0.
     Smf { offset: u32, kind: SmfKind },
     /// What the input may not hold.
     Source(SourceFault),
@@ -38,8 +46,11 @@ pub enum Fault {
     TooManyParts { port: u8, parts: u8 },
     /// A port, or a zone of it, needs more channels than it may have.
     TooManyChannels(TooMany),
+    /// The output could not be stored.
     Store,
+    /// The report could not be said.
     Say,
+    /// There was no memory for the work.
     Memory,
 }
 

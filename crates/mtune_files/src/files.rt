@@ -7,8 +7,11 @@ use std::alloc::Global;
 /// Why a content could not be loaded.
 #[derive(Debug, Drop)]
 pub enum LoadFault {
+    /// Nothing is held at the name, or it could not be read.
     Failed,
+    /// What is held has more bytes than the limit.
     TooLong,
+    /// It is within the limit, but there was no memory for it.
     Memory,
 }
 

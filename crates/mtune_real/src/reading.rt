@@ -29,7 +29,8 @@ fn has_more<R: Read>(reader: &mut R, most: usize) -> io::Result<bool>
     Ok(true)
 }
 
-/// All that is left to read, where that is at most `limit` bytes. Each turn takes a byte or ends.
+/// All that is left to read, where that is at most `limit` bytes. `Failed` comes where a read fails, and
+/// `TooLong` where more bytes were left; the reader then stands anywhere. Each turn takes a byte or ends.
 pub fn read_whole<R: Read>(alloc: Global, reader: &mut R, limit: u32) -> Result<Vec<u8>, LoadFault>
     // What is loaded is what was left, up to its end.
     ensures taken { IfOk result

@@ -21,7 +21,7 @@ pub(crate) fn rank_of(registered: bool, high: u8, low: u8) -> u16
     if registered { number } else { 16384 + number }
 }
 
-/// The value that the parameter of a rank has at the start.
+/// The value that a parameter has at the start, by its kind and the MSB and LSB of its number.
 pub(crate) fn default_of(registered: bool, high: u8, low: u8) -> (u8, u8)
     ensures { result ≡ default_value (numbered registered high low) }
 {

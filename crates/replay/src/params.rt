@@ -25,8 +25,8 @@ const RPN_MSB: u8 = 101;
 /// The byte that, as both bytes of a number, names no parameter.
 const NULL: u8 = 127;
 
-/// Whether no parameter differs, as nearly always, so that it is seen without a list: none but the
-/// four that have their own places are away from their defaults, and these four are equal.
+/// True only where no parameter differs: none but the four that have their own places is away from its
+/// default, and these four are equal. So it is nearly always, and is seen without a list.
 fn has_params_of(now: &ChannelState, wanted: &ChannelState) -> bool
     ensures { IsTrue result → changed (state_of now.now) (state_of wanted.now) ≡ [] }
 {
