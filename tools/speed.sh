@@ -1,23 +1,27 @@
 #!/bin/sh
 # Measures mtune beside midicopy of abcmidi, a plain C program that reads and writes the same file.
 #
-#     tools/speed.sh [RUNS]
+#     tools/speed.sh [RUNS [SCALE]]
 #
 # It makes files of 300,000 notes alone and of 200,000 notes with pedals and bends, in 1, 16 and 1,000 tracks, runs both
 # programs on each of them in turn, and prints the medians of their times and, where valgrind is there, how many
-# instructions each takes. It wants python3; a peer that is missing, or that does not take a file, is shown as '-': so are bend and
+# instructions each takes: the program that was built here, else the one in dist/, in SCALE (examples/meantone.scl), from key 69 at
+# 440 Hz. It wants python3; a peer that is missing, or that does not take a file, is shown as '-': so are bend and
 # mpe where the parts of many tracks need too many channels.
 set -eu
 
 here=$(dirname "$(readlink -f "$0")")
 runs=${1:-9}
+scale=${2:-$here/../examples/meantone.scl}
 folder=$(mktemp -d)
 trap 'rm -rf "$folder"' EXIT
 
-# Proves and builds the program where it is missing or old; here it refuses to run without words.
+# Proves and builds the program where there is none of this tree; here it refuses to run without words.
 "$here/../mtune" >/dev/null 2>&1 || true
+program=$here/../crates/mtune/out/mtune
+[ -x "$program" ] || program=$here/../dist/mtune-$(uname -m)-$(uname -s | tr '[:upper:]' '[:lower:]')
 python3 "$here/speed_files.py" "$folder"
-python3 - "$here/.." "$folder" "$runs" <<'END'
+python3 - "$program" "$scale" "$folder" "$runs" <<'END'
 import os
 import shutil
 import statistics
@@ -25,9 +29,9 @@ import subprocess
 import sys
 import time
 
-top, folder, runs = sys.argv[1], sys.argv[2], int(sys.argv[3])
+program, scale, folder, runs = sys.argv[1], sys.argv[2], sys.argv[3], int(sys.argv[4])
 out = f"{folder}/out.mid"
-mtune = [f"{top}/crates/mtune/out/mtune", "--scale", f"{top}/examples/meantone.scl", "--a440", "--route"]
+mtune = [program, "--scale", scale, "--a440", "--route"]
 
 
 def commands(name):
