@@ -11,11 +11,17 @@ use Rattle.key_pitch.specs.declared.fault.TuneFault.{TuneFault}
 use Rattle.key_pitch.specs.declared.fault.TuneFault.TheVariants as tune
 use Rattle.channel_plan.specs.declared.fault.PlanFault.{PlanFault}
 use Rattle.channel_plan.specs.declared.fault.PlanFault.TheVariants as plan
+use Rattle.command_line.specs.declared.fault.WordsFault.{WordsFault}
+use Rattle.command_line.specs.declared.fault.WordsFault.TheVariants as words
 use Rattle.mtune_core.specs.declared.outcome.Fault.{Fault}
-use Rattle.mtune_core.specs.declared.outcome.Fault.TheVariants.{Scl, Kbm, ReferenceUnmapped, TooManyPeriods, Smf, Source, TooManyParts, TooManyChannels, Memory}
+use Rattle.mtune_core.specs.declared.outcome.Fault.TheVariants.{Usage, Scl, Kbm, ReferenceUnmapped, TooManyPeriods, Smf, Source, TooManyParts, TooManyChannels, Memory}
 
 abbrev pub of_memory : Fault
 of_memory = Memory
+
+abbrev pub of_words : WordsFault → Fault
+of_words (words.Usage kind) = Usage kind
+of_words words.Memory = Memory
 
 abbrev pub of_scale : SclFault → Fault
 of_scale (scl.At line kind) = Scl line kind

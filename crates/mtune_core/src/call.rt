@@ -8,7 +8,7 @@ use crate::accepted::accepted_has_no_fault;
 use crate::lines::line_of;
 use crate::outcome::{Fault, Outcome, status};
 use crate::preparing::prepare;
-use command_line::{WordsFault, read_words};
+use command_line::read_words;
 use mtune_files::Files;
 use std::alloc::Global;
 
@@ -19,11 +19,7 @@ fn perform<F: Files>(alloc: Global, words: &[&str], files: &mut F) -> Result<(),
     ensures stopped { IfErr result
         (λ e. IsStopped (F.outside files.old) (F.outside files.new) (texts words.now) e) }
 {
-    let command = match read_words(alloc, words) {
-        Ok(command) => command,
-        Err(WordsFault::Usage { kind }) => return Err(Fault::Usage { kind }),
-        Err(WordsFault::Memory) => return Err(Fault::Memory),
-    };
+    let command = read_words(alloc, words)?;
     let made = prepare(alloc, &command, files)?;
     if files.store(command.out, &made.output).is_err() {
         return Err(Fault::Store);

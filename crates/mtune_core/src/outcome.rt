@@ -1,8 +1,9 @@
 ghost use Rattle.std.specs.Prelude.{◌≡◌};
 ghost use Rattle.mtune_core.specs.Status.{status_of};
-ghost use Rattle.mtune_core.specs.Causes.{of_memory, of_scale, of_mapping, of_tuning, of_file, of_step, of_plan};
+ghost use Rattle.mtune_core.specs.Causes.{of_memory, of_words, of_scale, of_mapping, of_tuning, of_file, of_step, of_plan};
 
 use channel_plan::{PlanFault, TooMany};
+use command_line::WordsFault;
 use kbm_text::{KbmFault, KbmKind};
 use key_pitch::TuneFault;
 use lifetimes::{SourceFault, StepFault};
@@ -79,6 +80,17 @@ impl From<Memory> for Fault {
 
     fn from(_memory: Memory) -> Fault {
         Fault::Memory
+    }
+}
+
+impl From<WordsFault> for Fault {
+    ghost from_gives = { λ fault given. given ≡ of_words fault };
+
+    fn from(fault: WordsFault) -> Fault {
+        match fault {
+            WordsFault::Usage { kind } => Fault::Usage { kind },
+            WordsFault::Memory => Fault::Memory,
+        }
     }
 }
 
